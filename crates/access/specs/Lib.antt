@@ -1,0 +1,5 @@
+pub mod Answer
+pub mod Checks
+pub mod Fold
+pub mod Kind
+pub mod Offset

@@ -1,0 +1,11 @@
+-- Maps over any rights function, which gives a rights word for each offset, below any window.
+--     Rows      rows, and rows as numbers in memory
+--     Map       what a map is, and the map of a rights function
+--     Lookup    the row that a lookup finds
+--     Put       what one more span changes in memory
+--     Sweep     a map worked out from boundaries: for proofs and worked examples
+pub mod Rows
+pub mod Map
+pub mod Lookup
+pub mod Put
+pub mod Sweep

@@ -1,0 +1,56 @@
+// Maps of rights in lent memory. A row, or span, is three numbers: start, end, rights.
+ghost use mathlib.Core.Path.{_≡_};
+ghost use Rattle.spans.specs.Lookup.{lookupIn};
+ghost use Rattle.spans.specs.Put.{putCount, putIn};
+ghost use Rattle.spans.specs.Sweep.{nearer};
+
+// The first row whose start and end enclose the offset, as a part of the map, or an empty part.
+pub fn lookup(map: &[u64], offset: u64) -> &[u64]
+    ensures { λ r. ⌜ now r ≡ lookupIn (now (map .entry)) offset ⌝ }
+{
+    let mut i = 0;
+    while 3 <= map.len() - i {
+        if map[i] <= offset {
+            if offset <= map[i + 1] {
+                let next = i + 3;
+                return &map[i..next];
+            }
+        }
+        i += 3;
+    }
+    &map[..0]
+}
+
+// One more span behind the first count rows of lent memory, and how many rows there then are. The last row goes on to the span's end
+// where its rights are the same, else the span is a row of its own. Without room for a row more nothing changes.
+pub fn put(lent: &mut [u64], count: usize, start: u64, end: u64, rights: u64) -> usize
+    ensures { λ r. ⌜ r ≡ putCount (now (lent .entry)) count rights ⌝ }
+    ensures { λ r. ⌜ now (lent .exit) ≡ putIn (now (lent .entry)) count start end rights ⌝ }
+{
+    if lent.len() / 3 <= count {
+        return count;
+    }
+    let i = 3 * count;
+    if 0 < count {
+        if lent[i - 1] == rights {
+            lent[i - 2] = end;
+            return count;
+        }
+    }
+    lent[i] = start;
+    lent[i + 1] = end;
+    lent[i + 2] = rights;
+    count + 1
+}
+
+// The boundary where it lies between at and nearest, else nearest.
+pub fn near(at: u64, boundary: u64, nearest: u64) -> u64
+    ensures { λ r. ⌜ r ≡ nearer at boundary nearest ⌝ }
+{
+    if at < boundary {
+        if boundary < nearest {
+            return boundary;
+        }
+    }
+    nearest
+}

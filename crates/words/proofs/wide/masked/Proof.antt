@@ -1,0 +1,11 @@
+use Rattle.words.specs.Ops.{and-is}
+use Rattle.words.proofs.wide.masked.Statement.{statement}
+use Rattle.words.proofs.wide.masked.Tie as tie
+
+returns : tie.Need-returns
+returns c = and-is 64 _ _ (c .fits .x .fits)
+
+pub masked-spec : {M : Type 1} → statement M
+masked-spec =
+    tie.close
+    (tie.spec returns)

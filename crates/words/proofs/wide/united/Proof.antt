@@ -1,0 +1,11 @@
+use Rattle.words.specs.Ops.{or-is}
+use Rattle.words.proofs.wide.united.Statement.{statement}
+use Rattle.words.proofs.wide.united.Tie as tie
+
+returns : tie.Need-returns
+returns c = or-is 64 _ _ (c .fits .x .fits) (c .fits .y .fits)
+
+pub united-spec : {M : Type 1} → statement M
+united-spec =
+    tie.close
+    (tie.spec returns)
