@@ -1,0 +1,172 @@
+//! The rules against a word-for-word reading, and the map against the rules.
+
+mod common;
+
+use common::random::Random;
+use common::GUARD_NUMBERS;
+use compare::model::{
+    lookup, Device, Direction, Event, Guard, MemoryAccess, Region, Span, Subregion,
+};
+
+fn bit(word: u32, place: u32) -> bool {
+    word & (1 << place) != 0
+}
+
+fn covers(start: u32, end: u32, offset: u32) -> bool {
+    start <= end && (start..=end).contains(&offset)
+}
+
+fn base_grants(region: &Region, ask: &MemoryAccess) -> bool {
+    let first_enable = if ask.direction == Direction::Write {
+        16
+    } else {
+        0
+    };
+    ask.secure == bit(region.cfgr, 8)
+        && (ask.privileged || !bit(region.cfgr, 16 + ask.cid))
+        && (bit(region.cidcfgr, first_enable + ask.cid) || ask.cid == 7)
+}
+
+fn subregions_grant(counting: &[(&Region, &Subregion)], ask: &MemoryAccess) -> bool {
+    let srcid = |sub: &Subregion| sub.cfgr / 16 % 8;
+    let all_sec = counting
+        .iter()
+        .all(|(base, sub)| bit(sub.cfgr, 8) && bit(base.cfgr, 8));
+    let all_priv = counting
+        .iter()
+        .all(|(base, sub)| bit(sub.cfgr, 9) && bit(base.cfgr, 16 + srcid(sub)));
+    let enable = if ask.direction == Direction::Write {
+        13
+    } else {
+        12
+    };
+    ask.secure == all_sec
+        && (ask.privileged || !all_priv)
+        && counting
+            .iter()
+            .any(|(_, sub)| (srcid(sub) == ask.cid || ask.cid == 7) && bit(sub.cfgr, enable))
+}
+
+/// The rule's number, and whether it grants.
+fn judged(guard: &Guard, ask: &MemoryAccess) -> (u32, bool) {
+    let bases: Vec<&Region> = guard
+        .own_regions()
+        .iter()
+        .filter(|r| bit(r.cfgr, 0) && covers(r.start, r.end, ask.offset))
+        .collect();
+    let counting: Vec<(&Region, &Subregion)> = bases
+        .iter()
+        .flat_map(|&base| base.subregions.iter().map(move |sub| (base, sub)))
+        .filter(|(_, s)| bit(s.cfgr, 0) && covers(s.start, s.end, ask.offset))
+        .collect();
+    if !counting.is_empty() {
+        (2, subregions_grant(&counting, ask))
+    } else if !bases.is_empty() {
+        (1, bases.iter().all(|base| base_grants(base, ask)))
+    } else {
+        let granted = ask.secure && ask.privileged && (ask.cid == 1 || ask.cid == 7);
+        (0, granted)
+    }
+}
+
+#[test]
+fn memory_accesses_follow_the_rules() {
+    let mut random = Random::new(4);
+    let mut granted_by = [0; 3];
+    for _ in 0..2_000 {
+        let mut device = random.device();
+        for _ in 0..300 {
+            let ask = random.memory_access();
+            let Some(guard) = device.guard(ask.guard) else {
+                continue;
+            };
+            let fits = u64::from(ask.offset) < guard.shape().window;
+            if !fits || ask.cid > 7 || !ask.offset.is_multiple_of(ask.width) {
+                continue;
+            }
+            let (rule, granted) = judged(guard, &ask);
+            let answer = device.apply(&Event::Memory(ask));
+            let expected = if granted { (0, rule) } else { (1, 0) };
+            assert_eq!((answer.number(), answer.value()), expected);
+            granted_by[rule as usize] += u32::from(granted);
+        }
+    }
+    assert!(
+        granted_by.iter().all(|&count| count > 1_000),
+        "{granted_by:?}"
+    );
+}
+
+fn ask_of_kind(guard: u32, offset: u32, kind: u32) -> MemoryAccess {
+    MemoryAccess {
+        guard,
+        offset,
+        width: 1,
+        direction: if bit(kind, 3) {
+            Direction::Write
+        } else {
+            Direction::Read
+        },
+        cid: kind % 8,
+        privileged: bit(kind, 4),
+        secure: bit(kind, 5),
+    }
+}
+
+fn rights_at(device: &Device, number: u32, offset: u32) -> u64 {
+    let guard = device.guard(number).unwrap();
+    (0..64)
+        .filter(|&kind| judged(guard, &ask_of_kind(number, offset, kind)).1)
+        .fold(0, |rights, kind| rights | 1 << kind)
+}
+
+/// The form every map has, whatever the rights are.
+fn check_form(spans: &[Span], window: u64) {
+    assert!(spans.len() <= 67);
+    assert_eq!(spans[0].start, 0);
+    assert_eq!(spans.last().unwrap().end, window - 1);
+    assert!(spans.iter().all(|span| span.start <= span.end));
+    for pair in spans.windows(2) {
+        assert_eq!(pair[1].start, pair[0].end + 1);
+        assert_ne!(pair[0].rights, pair[1].rights);
+    }
+}
+
+#[test]
+fn maps_follow_the_rules() {
+    let mut random = Random::new(5);
+    let mut longest = 0;
+    for _ in 0..100 {
+        let device = random.device();
+        for number in GUARD_NUMBERS {
+            let spans = device.map(number).unwrap();
+            let window = device.guard(number).unwrap().shape().window;
+            check_form(&spans, window);
+            longest = longest.max(spans.len());
+            let numbers: Vec<u64> = spans
+                .iter()
+                .flat_map(|s| [s.start, s.end, s.rights])
+                .collect();
+            let ends = spans.iter().flat_map(|span| [span.start, span.end]);
+            let others: Vec<u64> = (0..20).map(|_| u64::from(random.offset())).collect();
+            for offset in ends.chain(others).filter(|&offset| offset < window) {
+                let rights = rights_at(&device, number, offset as u32);
+                assert_eq!(lookup(&numbers, offset)[2], rights);
+            }
+        }
+    }
+    assert!(longest > 10, "{longest}");
+}
+
+#[test]
+fn lookup_takes_the_first_enclosing_row() {
+    let numbers = [5, 9, 1, 0, 3, 2, 7, 20, 3, 30, 40];
+    assert_eq!(lookup(&numbers, 7), [5, 9, 1]);
+    assert_eq!(lookup(&numbers, 3), [0, 3, 2]);
+    assert_eq!(lookup(&numbers, 20), [7, 20, 3]);
+    assert!(lookup(&numbers, 4).is_empty());
+    assert!(lookup(&numbers, 35).is_empty());
+    assert!(lookup(&numbers[..2], 7).is_empty());
+    assert!(lookup(&[9, 5, 1], 7).is_empty());
+    assert!(lookup(&[], 0).is_empty());
+}
