@@ -1,0 +1,54 @@
+use access::{Answer, Checks};
+use crate::event::{Operation, PeripheralAccess};
+use crate::flags::raise;
+use crate::lent::word_in;
+use crate::outcome::is_refused;
+
+ghost use mathlib.Core.Path.{_≡_};
+ghost use lib.ListN.{length};
+ghost use Rattle.device.specs.Layout.{stateOf, stateWords};
+ghost use Rattle.device.specs.Step.{fetches, peripheralChecks, peripheralStep};
+
+fn is_fetch(operation: Operation) -> bool
+    ensures { λ r. ⌜ r ≡ fetches operation ⌝ }
+{
+    match operation {
+        Operation::Read => false,
+        Operation::Write => false,
+        Operation::Fetch => true,
+    }
+}
+
+fn checks_of(state: &[u32], a: PeripheralAccess) -> Checks
+    requires { ⌜ length (now state) ≡ stateWords ⌝ }
+    ensures { λ r. ⌜ r ≡ peripheralChecks a (stateOf (now (state .entry))) ⌝ }
+{
+    let p = a.peripheral;
+    let operation = a.operation;
+    let x = (p.0 / 32) as usize;
+    let sec = word_in(state, 1, 6, x);
+    let privileged = word_in(state, 7, 6, x);
+    Checks {
+        present: p.exists(),
+        aligned: true,
+        inside: true,
+        fetchless: !is_fetch(operation),
+        known: true,
+        allowed: rifsc::peripherals::words_grant(sec, privileged, p, a.secure, a.privileged),
+        direction: true,
+        unlocked: true,
+    }
+}
+
+// A peripheral access.
+pub(crate) fn access_peripheral(state: &mut [u32], a: PeripheralAccess) -> Answer
+    requires { ⌜ length (now state) ≡ stateWords ⌝ }
+    ensures answer { λ r. ⌜ r ≡ peripheralStep a (stateOf (now (state .entry))) .answer ⌝ }
+    ensures next { λ _. ⌜ stateOf (now (state .exit)) ≡ peripheralStep a (stateOf (now (state .entry))) .next ⌝ }
+{
+    let answer = checks_of(state, a).answer(0);
+    if is_refused(answer) {
+        raise(state, a.peripheral.0);
+    }
+    answer
+}

@@ -1,0 +1,4 @@
+pub mod Contents
+pub mod Flags
+pub mod Port
+pub mod Registers

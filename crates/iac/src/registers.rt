@@ -1,0 +1,83 @@
+use crate::contents::word_at;
+ghost use mathlib.Core.Path.{_≡_};
+ghost use Rattle.iac.specs.Registers.{facts, factsOf, iisr, registerAt};
+
+// A register of the illegal access controller, with its index.
+pub enum Register {
+    Ier(usize),
+    Isr(usize),
+    Icr(usize),
+    Iisr(usize),
+    Unknown,
+}
+
+// What is fixed of a register.
+pub(crate) struct Facts {
+    pub(crate) known: bool,
+    // Not write-only.
+    pub(crate) readable: bool,
+    // Not read-only.
+    pub(crate) writable: bool,
+    // Needs secure and privileged, to read also.
+    pub(crate) guarded: bool,
+    // The named bits.
+    pub(crate) named: u32,
+}
+
+const FLAGS: [u32; 6] = [
+    0xffff_ff7f,
+    0x77ff_ffff,
+    0x77df_f03b,
+    0x0000_05ff,
+    0x7bef_ffef,
+    0x0000_0000,
+];
+
+// IISRx: which bits of IERx, ISRx and ICRx are named. Past the last there is none.
+pub fn iisr(x: usize) -> u32
+    ensures { λ r. ⌜ r ≡ iisr x ⌝ }
+{
+    word_at(FLAGS, x)
+}
+
+// The register at an offset that is a multiple of 4.
+pub fn register_at(offset: u32) -> Register
+    ensures { λ r. ⌜ r ≡ registerAt offset ⌝ }
+{
+    match offset {
+        0x000..=0x017 => Register::Ier((offset / 4) as usize),
+        0x080..=0x097 => Register::Isr(((offset - 0x080) / 4) as usize),
+        0x100..=0x117 => Register::Icr(((offset - 0x100) / 4) as usize),
+        0x36c..=0x383 => Register::Iisr(((offset - 0x36c) / 4) as usize),
+        _ => Register::Unknown,
+    }
+}
+
+impl Facts {
+    fn of(known: bool, readable: bool, writable: bool, guarded: bool, named: u32) -> Self
+        ensures { λ r. ⌜ r ≡ facts known readable writable guarded named ⌝ }
+    {
+        Facts {
+            known,
+            readable,
+            writable,
+            guarded,
+            named,
+        }
+    }
+}
+
+impl Register {
+    // In the order of the fields: known, readable, writable, guarded, named.
+    pub(crate) fn facts(self) -> Facts
+        ensures { λ r. ⌜ r ≡ factsOf self ⌝ }
+    {
+        match self {
+            Register::Ier(x) => Facts::of(true, true, true, true, iisr(x)),
+            Register::Isr(x) => Facts::of(true, true, false, true, iisr(x)),
+            Register::Icr(x) => Facts::of(true, false, true, true, iisr(x)),
+            Register::Iisr(_) => Facts::of(true, true, false, false, 0xffff_ffff),
+            Register::Unknown => Facts::of(false, false, false, true, 0),
+        }
+    }
+}

@@ -1,0 +1,17 @@
+-- The laws of a guard's map. For users of the crate:
+--     Demand     demand 3: demand-3
+--     Sheets     the mission's sentence on two like sheets: sheets
+--     Found      what a lookup in a map finds: finds, finds-own, finds-none
+--     Used       the same of what `fill` leaves and of the part that is handed back
+--     Steady     the map as computed from boundaries: rows-swept; its most rows: rows-67
+-- The others serve these, and the code: Guards (the guards' numbers, shapes and places), Nearest (the next boundary), Made (the calls of
+-- `fill`), Grants (the answers of `step`).
+pub mod Guards
+pub mod Nearest
+pub mod Steady
+pub mod Made
+pub mod Grants
+pub mod Demand
+pub mod Sheets
+pub mod Found
+pub mod Used

@@ -1,0 +1,108 @@
+-- A guard's rights change only at boundaries of its enabled regions: its map is that of a sweep, and has at most 67 rows.
+use mathlib.Core.Bool.{Bool, true, false, _&&_, cond}
+use mathlib.Core.List.{List, _∷_}
+use mathlib.Core.Path.{_≡_, refl, sym, ap, _∙_}
+use Prim.Native.Nat.{ℕ, zero, suc, _+_, _*_, _≤_}
+use native.Mathlib.Omega.{arith}
+use lib.ListN.{length}
+use Rattle.words.specs.Laws.{word-cong}
+use Rattle.access.specs.Kind.{kindOf}
+use Rattle.access.specs.declared.kind.Kind.{Kind}
+use Rattle.risaf.specs.Guards.{shapeOf}
+use Rattle.risaf.specs.Registers.{base, sub}
+use Rattle.risaf.specs.Rights.{rights}
+use Rattle.risaf.specs.Rules.{covers}
+use Rattle.risaf.specs.Tally.{tally, added, subAdded, judged}
+use Rattle.risaf.specs.declared.rules.Verdict.{Verdict}
+use Rattle.risaf.proofs.Tally.{tally-suc, decided-judged}
+use Rattle.spans.specs.Rows.{encloses, size}
+use Rattle.spans.specs.Map.{mapOf}
+use Rattle.spans.specs.Sweep.{sweptMap, boundsOf}
+use Rattle.spans.proofs.Steady.{Alike, Steady, steady-pairs, length-bounds}
+use Rattle.spans.proofs.Sweep.{swept-is-map, rows-most}
+use Rattle.device.specs.State.{State, guardOf}
+use Rattle.map.specs.Bounds.{enabled, pairAt, withPair, withRegion, pairsOf}
+use Rattle.map.specs.Map.{rightsOf, rowsOf}
+use Rattle.map.proofs.Guards.{small}
+
+-- ---- where the same pairs enclose two offsets, their rights are the same
+
+module _ (w : List ℕ) (o o′ : ℕ) where
+  pair-alike : (c : Bool) (p : ℕ × ℕ) (ps : List (ℕ × ℕ)) → Alike (cond c (p ∷ ps) ps) o o′
+      → ((c && encloses (p .0) (p .1) o) ≡ (c && encloses (p .0) (p .1) o′)) × Alike ps o o′
+  unfolding Alike
+  pair-alike true p ps a = a
+  pair-alike false p ps a = (refl, a)
+
+  region-alike : (x : ℕ) (k : Kind) (ps : List (ℕ × ℕ)) → Alike (withRegion w x ps) o o′
+      → (added w x o k (tally w x o k) ≡ added w x o′ k (tally w x o k)) × Alike ps o o′
+  unfolding added subAdded Alike
+  region-alike x k ps = by (enabled w (base x)) refl
+    where
+      by : (c : Bool) → enabled w (base x) ≡ c
+          → Alike (cond c (withPair w (sub x 1) (withPair w (sub x 0) (pairAt w (base x) ∷ ps))) ps) o o′
+          → (added w x o k (tally w x o k) ≡ added w x o′ k (tally w x o k)) × Alike ps o o′
+      by true e a =
+          let p = pair-alike (enabled w (sub x 1)) (pairAt w (sub x 1)) _ a in
+          let q = pair-alike (enabled w (sub x 0)) (pairAt w (sub x 0)) _ (p .1) in
+          let b : covers w (base x) o ≡ covers w (base x) o′ = ap (λ (c : Bool). enabled w (base x) && c) (q .1 .0) in
+          (simp (b, q .0, p .0), q .1 .1)
+      by false e a = (simp e, a)
+
+  tally-alike : (n : ℕ) (k : Kind) → Alike (pairsOf w n) o o′ → tally w n o k ≡ tally w n o′ k
+  unfolding tally pairsOf
+  tally-alike zero k a = refl
+  tally-alike (suc n) k a =
+      let p = region-alike n k (pairsOf w n) a in
+      tally-suc w n o k ∙ p .0 ∙ ap (added w n o′ k) (tally-alike n k (p .1)) ∙ sym (tally-suc w n o′ k)
+
+  rights-alike : (n : ℕ) → Alike (pairsOf w n) o o′ → rights w n o ≡ rights w n o′
+  unfolding rights
+  rights-alike n a =
+      word-cong 64 _ _
+      (λ b h.
+      let k = kindOf b in
+      ap (λ (v : Verdict). v .granted)
+      (decided-judged w n o k ∙ ap (λ t. judged t k) (tally-alike n k a) ∙ sym (decided-judged w n o′ k)))
+
+pub steady : (w : List ℕ) (n : ℕ) → Steady (rights w n) (boundsOf (pairsOf w n))
+steady w n = steady-pairs (rights w n) (pairsOf w n) (λ x y a. rights-alike w x y n a)
+
+-- ---- how many boundaries there are
+
+pub bounds-most : (w : List ℕ) (n : ℕ) → n ≤ 11 → length (boundsOf (pairsOf w n)) ≤ 66
+unfolding pairsOf
+bounds-most w n h = omega (arith, length-bounds (pairsOf w n), most n)
+  where
+    one : (c : Bool) (p : ℕ × ℕ) (ps : List (ℕ × ℕ)) → length (cond c (p ∷ ps) ps) ≤ length ps + 1
+    one true p ps = omega arith
+    one false p ps = omega arith
+
+    three : (c : Bool) (qs ps : List (ℕ × ℕ)) → length qs ≤ length ps + 3 → length (cond c qs ps) ≤ length ps + 3
+    three true qs ps h = h
+    three false qs ps h = omega arith
+
+    most : (n : ℕ) → length (pairsOf w n) ≤ 3 * n
+    most zero = omega arith
+    most (suc x) =
+        let ps = pairsOf w x in
+        let b = pairAt w (base x) ∷ ps in
+        let a = withPair w (sub x 0) b in
+        let h : length (withPair w (sub x 1) a) ≤ length ps + 3 =
+        omega (arith, one (enabled w (sub x 1)) (pairAt w (sub x 1)) a, one (enabled w (sub x 0)) (pairAt w (sub x 0)) b) in
+        omega (arith, three (enabled w (base x)) (withPair w (sub x 1) a) ps h, most x)
+
+pub size-most : (w : List ℕ) (n window : ℕ) → n ≤ 11 → size (mapOf (rights w n) window) ≤ 67
+size-most w n window h = omega (arith, rows-most (steady w n) window, bounds-most w n h)
+
+-- ---- the map of a guard
+
+module _ (s : State) (n : ℕ) where
+  -- as computed, boundary by boundary
+  pub rows-swept : rowsOf s n ≡ sweptMap (rightsOf s n) (boundsOf (pairsOf (guardOf s n .regions) (shapeOf n .regions))) (shapeOf n .window)
+  unfolding rowsOf rightsOf
+  rows-swept = sym (swept-is-map (steady (guardOf s n .regions) (shapeOf n .regions)) (shapeOf n .window))
+
+  pub rows-67 : size (rowsOf s n) ≤ 67
+  unfolding rowsOf rightsOf
+  rows-67 = size-most (guardOf s n .regions) (shapeOf n .regions) (shapeOf n .window) (small n .0)

@@ -1,0 +1,13 @@
+use borrow.Author.Needs.{needs}
+use Rattle.rifsc.specs.Masters.{carried}
+use Rattle.rifsc.proofs.contents.Rifsc.carried.Statement.{statement}
+use Rattle.rifsc.proofs.contents.Rifsc.carried.Tie as tie
+
+returns : tie.Need-returns
+unfolding carried
+returns c = simp (c .attributes .ensures, c .before .attr-at .ensures)
+
+pub carried-spec : {M : Type 1} → statement M
+carried-spec =
+    tie.close
+    (tie.spec (λ c. search needs) (λ c κs. search needs) (λ c κs. search needs) returns)

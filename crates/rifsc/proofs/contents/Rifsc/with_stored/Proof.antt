@@ -1,0 +1,44 @@
+use borrow.Author.Needs.{needs}
+use Rattle.rifsc.specs.Contents.{withStored}
+use Rattle.rifsc.proofs.contents.Rifsc.with_stored.Statement.{statement}
+use Rattle.rifsc.proofs.contents.Rifsc.with_stored.Tie as tie
+
+returns : tie.Need-returns
+unfolding withStored
+returns c = simp (c .enum-told .given .1)
+
+returns-2 : tie.Need-returns-2
+unfolding withStored
+returns-2 c = simp (c .with-word .ensures, c .before .before .before .reg .given .1)
+
+returns-3 : tie.Need-returns-3
+unfolding withStored
+returns-3 c = simp (c .with-word2 .ensures, c .before .before .before .reg2 .given .1)
+
+returns-4 : tie.Need-returns-4
+unfolding withStored
+returns-4 c = simp (c .with-word3 .ensures, c .before .before .before .reg3 .given .1)
+
+returns-5 : tie.Need-returns-5
+unfolding withStored
+returns-5 c = simp (c .enum-told2 .given .1)
+
+returns-6 : tie.Need-returns-6
+unfolding withStored
+returns-6 c = simp (c .with-attr .ensures, c .before .before .before .reg4 .given .1)
+
+returns-7 : tie.Need-returns-7
+unfolding withStored
+returns-7 c = simp (c .enum-told3 .given .1)
+
+returns-8 : tie.Need-returns-8
+unfolding withStored
+returns-8 c = simp (c .enum-told4 .given .1)
+
+pub with-stored-spec : {M : Type 1} → statement M
+with-stored-spec =
+    tie.close
+    (tie.spec (λ c. search needs) (λ c. search needs) (λ c κs. search needs) (λ c. search needs)
+    (λ c κs. search needs) (λ c. search needs) (λ c κs. search needs) (λ c. search needs) (λ c. search needs)
+    (λ c κs. search needs) (λ c. search needs) (λ c. search needs) returns returns-2 returns-3 returns-4 returns-5
+    returns-6 returns-7 returns-8)

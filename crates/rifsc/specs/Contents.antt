@@ -1,0 +1,103 @@
+-- The controller's registers as stored, and reset: document 01, "RIFSC".
+use mathlib.Core.List.{List}
+use Prim.Native.Nat.{ℕ}
+use lib.ListN.{getD, set, replicate}
+use Rattle.words.specs.Bit.{bit}
+use Rattle.rifsc.specs.Registers.{ppsr, indexOf}
+use Rattle.rifsc.specs.declared.registers.Register.{Register}
+use Rattle.rifsc.specs.declared.registers.Register.the-variants.{Cr, Seccfgr, Privcfgr, Rcfglockr, Rimccr, Attr, Ppsr, Unknown}
+use Rattle.rifsc.specs.declared.contents.Rifsc.{Rifsc}
+use Rattle.rifsc.specs.declared.contents.Seen.{Seen}
+
+-- the word stored for a register; PPSR is constant
+unfoldable pub stored : Rifsc → Register → ℕ
+stored r Cr = r .cr
+stored r (Seccfgr x) = getD (r .seccfgr) x 0
+stored r (Privcfgr x) = getD (r .privcfgr) x 0
+stored r (Rcfglockr x) = getD (r .rcfglockr) x 0
+stored r Rimccr = r .rimccr
+stored r (Attr m) = getD (r .attr) m 0
+stored r (Ppsr x) = ppsr x
+stored r Unknown = 0
+
+-- the controller with another word stored for a register
+unfoldable pub withStored : Rifsc → Register → ℕ → Rifsc
+withStored r Cr v =
+    record {
+      cr = v;
+      seccfgr = r .seccfgr;
+      privcfgr = r .privcfgr;
+      rcfglockr = r .rcfglockr;
+      rimccr = r .rimccr;
+      attr = r .attr;
+    }
+withStored r (Seccfgr x) v =
+    record {
+      cr = r .cr;
+      seccfgr = set (r .seccfgr) x v;
+      privcfgr = r .privcfgr;
+      rcfglockr = r .rcfglockr;
+      rimccr = r .rimccr;
+      attr = r .attr;
+    }
+withStored r (Privcfgr x) v =
+    record {
+      cr = r .cr;
+      seccfgr = r .seccfgr;
+      privcfgr = set (r .privcfgr) x v;
+      rcfglockr = r .rcfglockr;
+      rimccr = r .rimccr;
+      attr = r .attr;
+    }
+withStored r (Rcfglockr x) v =
+    record {
+      cr = r .cr;
+      seccfgr = r .seccfgr;
+      privcfgr = r .privcfgr;
+      rcfglockr = set (r .rcfglockr) x v;
+      rimccr = r .rimccr;
+      attr = r .attr;
+    }
+withStored r Rimccr v =
+    record {
+      cr = r .cr;
+      seccfgr = r .seccfgr;
+      privcfgr = r .privcfgr;
+      rcfglockr = r .rcfglockr;
+      rimccr = v;
+      attr = r .attr;
+    }
+withStored r (Attr m) v =
+    record {
+      cr = r .cr;
+      seccfgr = r .seccfgr;
+      privcfgr = r .privcfgr;
+      rcfglockr = r .rcfglockr;
+      rimccr = r .rimccr;
+      attr = set (r .attr) m v;
+    }
+withStored r (Ppsr x) v = r
+withStored r Unknown v = r
+
+-- what an access to a register looks at
+unfoldable pub seen : Rifsc → Register → Seen
+seen r reg =
+    record {
+      glock = bit (r .cr) 0;
+      rimclock = bit (r .rimccr) 0;
+      rlock = getD (r .rcfglockr) (indexOf reg) 0;
+      sec = getD (r .seccfgr) (indexOf reg) 0;
+      word = stored r reg;
+    }
+
+-- reset: all 0 but RIMC_CR
+unfoldable pub reset : Rifsc
+reset =
+    record {
+      cr = 0;
+      seccfgr = replicate 6 0;
+      privcfgr = replicate 6 0;
+      rcfglockr = replicate 6 0;
+      rimccr = 0x0000_0710;
+      attr = replicate 13 0;
+    }

@@ -1,0 +1,5 @@
+pub mod Contents
+pub mod Masters
+pub mod Peripherals
+pub mod Port
+pub mod Registers

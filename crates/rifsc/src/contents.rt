@@ -1,0 +1,160 @@
+use crate::Register;
+use crate::registers::ppsr;
+use access::Answer;
+ghost use mathlib.Core.Path.{_≡_};
+ghost use lib.ListN.{getD, set};
+ghost use Rattle.rifsc.specs.Contents.{reset, seen, stored, withStored};
+
+// The controller's registers as stored, whole words.
+pub struct Rifsc {
+    pub cr: u32,
+    pub seccfgr: [u32; 6],
+    pub privcfgr: [u32; 6],
+    pub rcfglockr: [u32; 6],
+    pub rimccr: u32,
+    pub attr: [u32; 13],
+}
+
+// What an access to a register looks at.
+pub struct Seen {
+    // GLOCK of CR.
+    pub glock: bool,
+    // GLOCK of RIMC_CR.
+    pub rimclock: bool,
+    // RCFGLOCKR and SECCFGR of the register's index.
+    pub rlock: u32,
+    pub sec: u32,
+    // The register's own word.
+    pub word: u32,
+}
+
+// What an access leaves: the next state and the answer.
+pub struct Stepped {
+    pub next: Rifsc,
+    pub answer: Answer,
+}
+
+// The word at x; past the last there is none.
+pub(crate) fn word_at(words: [u32; 6], x: usize) -> u32
+    ensures { λ r. ⌜ r ≡ getD words x 0 ⌝ }
+{
+    if x < 6 { words[x] } else { 0 }
+}
+
+// ATTR of master m; past the last there is none.
+pub(crate) fn attr_at(attr: [u32; 13], m: usize) -> u32
+    ensures { λ r. ⌜ r ≡ getD attr m 0 ⌝ }
+{
+    if m < 13 { attr[m] } else { 0 }
+}
+
+// The words with v at x; past the last as they were.
+fn with_word(mut words: [u32; 6], x: usize, v: u32) -> [u32; 6]
+    ensures { λ r. ⌜ r ≡ set words x v ⌝ }
+{
+    if x < 6 {
+        words[x] = v;
+    }
+    words
+}
+
+fn with_attr(mut attr: [u32; 13], m: usize, v: u32) -> [u32; 13]
+    ensures { λ r. ⌜ r ≡ set attr m v ⌝ }
+{
+    if m < 13 {
+        attr[m] = v;
+    }
+    attr
+}
+
+impl Rifsc {
+    pub fn reset() -> Self
+        ensures { λ r. ⌜ r ≡ reset ⌝ }
+    {
+        Rifsc {
+            cr: 0,
+            seccfgr: [0; 6],
+            privcfgr: [0; 6],
+            rcfglockr: [0; 6],
+            rimccr: 0x0000_0710,
+            attr: [0; 13],
+        }
+    }
+
+    // The word stored for a register.
+    pub fn stored(self, reg: Register) -> u32
+        ensures { λ r. ⌜ r ≡ stored self reg ⌝ }
+    {
+        match reg {
+            Register::Cr => self.cr,
+            Register::Seccfgr(x) => {
+                let words = self.seccfgr;
+                word_at(words, x)
+            }
+            Register::Privcfgr(x) => {
+                let words = self.privcfgr;
+                word_at(words, x)
+            }
+            Register::Rcfglockr(x) => {
+                let words = self.rcfglockr;
+                word_at(words, x)
+            }
+            Register::Rimccr => self.rimccr,
+            Register::Attr(m) => {
+                let attr = self.attr;
+                attr_at(attr, m)
+            }
+            Register::Ppsr(x) => ppsr(x),
+            Register::Unknown => 0,
+        }
+    }
+
+    // The controller with another word stored for a register.
+    pub fn with_stored(mut self, reg: Register, v: u32) -> Self
+        ensures { λ r. ⌜ r ≡ withStored self reg v ⌝ }
+    {
+        match reg {
+            Register::Cr => self.cr = v,
+            Register::Seccfgr(x) => {
+                let old = self.seccfgr;
+                let new = with_word(old, x, v);
+                self.seccfgr = new;
+            }
+            Register::Privcfgr(x) => {
+                let old = self.privcfgr;
+                let new = with_word(old, x, v);
+                self.privcfgr = new;
+            }
+            Register::Rcfglockr(x) => {
+                let old = self.rcfglockr;
+                let new = with_word(old, x, v);
+                self.rcfglockr = new;
+            }
+            Register::Rimccr => self.rimccr = v,
+            Register::Attr(m) => {
+                let old = self.attr;
+                let new = with_attr(old, m, v);
+                self.attr = new;
+            }
+            Register::Ppsr(_) => {}
+            Register::Unknown => {}
+        }
+        self
+    }
+
+    // What an access to a register looks at.
+    pub fn seen(self, reg: Register) -> Seen
+        ensures { λ r. ⌜ r ≡ seen self reg ⌝ }
+    {
+        let x = reg.index_of();
+        let rcfglockr = self.rcfglockr;
+        let seccfgr = self.seccfgr;
+        Seen {
+            glock: words::bit_of(self.cr, 0),
+            rimclock: words::bit_of(self.rimccr, 0),
+            rlock: word_at(rcfglockr, x),
+            sec: word_at(seccfgr, x),
+            word: self.stored(reg),
+        }
+    }
+}

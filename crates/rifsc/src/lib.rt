@@ -1,0 +1,13 @@
+// The controller RIFSC: which peripherals are secure and privileged, and what each master carries.
+pub mod contents;
+pub mod masters;
+pub mod peripherals;
+pub mod port;
+pub mod registers;
+
+pub use contents::Rifsc;
+pub use contents::Seen;
+pub use contents::Stepped;
+pub use masters::MasterNumber;
+pub use peripherals::PeripheralNumber;
+pub use registers::Register;

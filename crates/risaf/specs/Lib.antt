@@ -1,0 +1,11 @@
+pub mod Guards
+pub mod Registers
+pub mod Contents
+pub mod Port
+pub mod Places
+pub mod Forms
+pub mod Rules
+pub mod Rights
+pub mod Lent
+pub mod Tally
+pub mod Memory

@@ -1,0 +1,77 @@
+-- What the code of the rules and rights adds up. The meaning is that of Rules.antt and Rights.antt.
+use mathlib.Core.Bool.{Bool, true, not, _&&_, _||_, cond, Bool·beq}
+use mathlib.Core.List.{List}
+use Prim.Native.Nat.{ℕ, _+_}
+use Rattle.words.specs.Bit.{bit, word}
+use Rattle.access.specs.Fold.{any}
+use Rattle.access.specs.Kind.{kindOf}
+use Rattle.access.specs.declared.kind.Kind.{Kind}
+use Rattle.risaf.specs.Lent.{decidedIn}
+use Rattle.risaf.specs.Registers.{base, sub}
+use Rattle.risaf.specs.Rules.{covers, counts, debugger, direction, grants0, grants1, baseGrants, workingSec, workingPriv, opens, anySub, allSub}
+use Rattle.risaf.specs.declared.rules.Tally.{Tally}
+use Rattle.risaf.specs.declared.rules.Verdict.{Verdict}
+
+-- what n base regions say
+unfoldable pub tally : List ℕ → ℕ → ℕ → Kind → Tally
+tally w n o k =
+    record {
+      covered = any n (λ x. covers w (base x) o);
+      granted = grants1 w n o k;
+      counted = anySub n (counts w o);
+      secure = allSub n (λ x s. not (counts w o x s) || workingSec w x s);
+      privileged = allSub n (λ x s. not (counts w o x s) || workingPriv w x s);
+      opened = anySub n (λ x s. counts w o x s && opens w k x s);
+    }
+
+-- the verdict on it
+unfoldable pub judged : Tally → Kind → Verdict
+judged t k =
+    cond (t .counted)
+    (record { rule = 2; granted = Bool·beq (k .secure) (t .secure) && (k .privileged || not (t .privileged)) && t .opened })
+    (cond (t .covered) (record { rule = 1; granted = t .granted }) (record { rule = 0; granted = grants0 k }))
+
+-- rule 1 at a base region with these words
+abbrev pub baseAllows : ℕ → ℕ → Kind → Bool
+baseAllows cfgr cidcfgr k =
+    Bool·beq (k .secure) (bit cfgr 8)
+    && (k .privileged || not (bit cfgr (16 + k .cid .0)))
+    && (debugger k || direction k (bit cidcfgr (16 + k .cid .0)) (bit cidcfgr (k .cid .0)))
+
+-- with a subregion of a base region that covers: c says whether it covers too, the others what it says then
+abbrev pub withSub : Bool → Bool → Bool → Bool → Tally → Tally
+withSub c sec pri opened t =
+    cond c
+    (record {
+      covered = t .covered;
+      granted = t .granted;
+      counted = true;
+      secure = t .secure && sec;
+      privileged = t .privileged && pri;
+      opened = t .opened || opened;
+    })
+    t
+
+unfoldable pub subAdded : List ℕ → ℕ → ℕ → ℕ → Kind → Tally → Tally
+subAdded w x s o k = withSub (covers w (sub x s) o) (workingSec w x s) (workingPriv w x s) (opens w k x s)
+
+-- with a base region that covers
+abbrev pub withBase : Bool → Tally → Tally
+withBase grants t =
+    record {
+      covered = true;
+      granted = t .granted && grants;
+      counted = t .counted;
+      secure = t .secure;
+      privileged = t .privileged;
+      opened = t .opened;
+    }
+
+-- with base region x and its subregions
+unfoldable pub added : List ℕ → ℕ → ℕ → Kind → Tally → Tally
+added w x o k t =
+    cond (covers w (base x) o) (subAdded w x 1 o k (subAdded w x 0 o k (withBase (baseGrants w k x) t))) t
+
+-- the rights of the first b kinds of asking
+unfoldable pub rightsBelow : List ℕ → ℕ → ℕ → ℕ → ℕ
+rightsBelow w n o b = word b (λ i. decidedIn w n o (kindOf i) .granted)

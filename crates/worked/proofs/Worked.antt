@@ -1,0 +1,92 @@
+-- Every marked example holds, by computing.
+use mathlib.Core.Bool.{Bool, true, false, _&&_}
+use mathlib.Core.List.{List, [], _∷_}
+use mathlib.Core.Path.{_≡_, refl, ap, ap₂, _∙_}
+use Prim.Native.Nat.{ℕ}
+use lib.Dec.{eqb}
+use borrow.Author.Tests.{eqb-true}
+use Rattle.access.specs.Answer.{numberOf, valueOf}
+use Rattle.words.specs.Bit.{masked, merged, united, withBit}
+use Rattle.access.specs.Checks.{answered}
+use Rattle.rifsc.specs.Registers.{registerAt as rifsc-registerAt, ppsr, named as rifsc-named, fixed}
+use Rattle.rifsc.specs.Contents.{stored as rifsc-stored, withStored as rifsc-withStored, seen as rifsc-seen, reset as rifsc-reset}
+use Rattle.rifsc.specs.Port.{readOf as rifsc-readOf, lockedOf as rifsc-lockedOf, raised, secWritten, privWritten, attrWritten, rimcWritten, wordWritten as rifsc-wordWritten, checksOf as rifsc-checksOf, answerOf as rifsc-answerOf, written as rifsc-written, stepped as rifsc-stepped}
+use Rattle.iac.specs.Registers.{registerAt as iac-registerAt, iisr, named as iac-named}
+use Rattle.iac.specs.Contents.{stored as iac-stored, reset as iac-reset}
+use Rattle.iac.specs.Port.{readOf as iac-readOf, checksOf as iac-checksOf, answerOf as iac-answerOf, written as iac-written, stepped as iac-stepped}
+use Rattle.iac.specs.Flags.{isFlag, raise}
+use Rattle.risaf.specs.Guards.{isGuard, shapeOf}
+use Rattle.risaf.specs.Registers.{registerAt}
+use Rattle.risaf.specs.Contents.{stored, withStored, seen, reset}
+use Rattle.risaf.specs.Port.{readOf, allowedOf, lockedOf, subcfgrWritten, wordWritten, checksOf, answerOf, written, stepped}
+use Rattle.risaf.specs.Rules.{decided}
+use Rattle.risaf.specs.Rights.{rights}
+use Rattle.risaf.specs.Memory.{checksOf as memory-checksOf, answerOf as memory-answerOf, faulted, accessed}
+use Rattle.device.specs.State.{State, place, guardOf, withGuard, resetState}
+use Rattle.device.specs.Step.{registerStep, memoryStep, step}
+use Rattle.map.specs.Bounds.{pairsOf}
+use Rattle.map.specs.Map.{rightsOf}
+use Rattle.map.proofs.Steady.{rows-swept}
+use Rattle.spans.specs.Map.{join}
+use Rattle.spans.specs.Rows.{Rows, flat}
+use Rattle.spans.specs.Sweep.{nextOf, sweepFrom, sweptMap, boundsOf}
+use Rattle.worked.specs.Example.{Line, gives, prints, Holds, AllHold}
+use Rattle.worked.specs.Examples.{worked}
+
+-- ---- a test that computes, and what it says
+
+both : (a b : Bool) → (a && b) ≡ true → (a ≡ true) × (b ≡ true)
+both true b h = (refl, h)
+both false b h = (h, cc)
+
+same : List ℕ → List ℕ → Bool
+same [] [] = true
+same [] (y ∷ ys) = false
+same (x ∷ xs) [] = false
+same (x ∷ xs) (y ∷ ys) = eqb x y && same xs ys
+
+same-is : (xs ys : List ℕ) → same xs ys ≡ true → xs ≡ ys
+unfolding same
+same-is [] [] h = refl
+same-is [] (y ∷ ys) h = cc
+same-is (x ∷ xs) [] h = cc
+same-is (x ∷ xs) (y ∷ ys) h = let p = both _ _ h in ap₂ _∷_ (eqb-true x y (p .0)) (same-is xs ys (p .1))
+
+-- the rows by a sweep over the guard's boundaries, which are those of its map (rows-swept)
+swept : State → ℕ → Rows
+swept s n = sweptMap (rightsOf s n) (boundsOf (pairsOf (guardOf s n .regions) (shapeOf n .regions))) (shapeOf n .window)
+
+passes : List Line → State → Bool
+passes [] s = true
+passes (gives e number value ∷ ls) s =
+    eqb (numberOf (step e s .answer)) number && (eqb (valueOf (step e s .answer)) value && passes ls (step e s .next))
+passes (prints n rows ∷ ls) s = same (flat (swept s n)) rows && passes ls s
+
+pass : List (List Line) → Bool
+pass [] = true
+pass (x ∷ xs) = passes x resetState && pass xs
+
+holds : (ls : List Line) (s : State) → passes ls s ≡ true → Holds ls s
+unfolding Holds passes swept
+holds [] s h = tt
+holds (gives e number value ∷ ls) s h =
+    let p = both _ _ h in
+    let q = both _ _ (p .1) in
+    (eqb-true _ _ (p .0), eqb-true _ _ (q .0), holds ls (step e s .next) (q .1))
+holds (prints n rows ∷ ls) s h =
+    let p = both _ _ h in
+    (ap flat (rows-swept s n) ∙ same-is _ _ (p .0), holds ls s (p .1))
+
+hold : (xs : List (List Line)) → pass xs ≡ true → AllHold xs
+unfolding AllHold pass
+hold [] h = tt
+hold (x ∷ xs) h = let p = both _ _ h in (holds x resetState (p .0), hold xs (p .1))
+
+-- ---- the examples
+
+passed : pass worked ≡ true
+unfolding pass passes same swept worked flat sweptMap sweepFrom nextOf boundsOf join pairsOf rightsOf rights masked merged united withBit answered rifsc-registerAt ppsr rifsc-named fixed rifsc-stored rifsc-withStored rifsc-seen rifsc-reset rifsc-readOf rifsc-lockedOf raised secWritten privWritten attrWritten rimcWritten rifsc-wordWritten rifsc-checksOf rifsc-answerOf rifsc-written rifsc-stepped iac-registerAt iisr iac-named iac-stored iac-reset iac-readOf iac-checksOf iac-answerOf iac-written iac-stepped isFlag raise isGuard shapeOf registerAt stored withStored seen reset readOf allowedOf lockedOf subcfgrWritten wordWritten checksOf answerOf written stepped decided memory-checksOf memory-answerOf faulted accessed place guardOf withGuard resetState registerStep memoryStep step
+passed = refl
+
+pub all-hold : AllHold worked
+all-hold = hold worked passed

@@ -1,0 +1,59 @@
+-- What a marked example says, and when it holds.
+use mathlib.Core.Bool.{Bool, true, false}
+use mathlib.Core.List.{List, [], _∷_}
+use mathlib.Core.Path.{_≡_}
+use Prim.Native.Nat.{ℕ}
+use Rattle.access.specs.Answer.{numberOf, valueOf}
+use Rattle.spans.specs.Rows.{flat}
+use Rattle.device.specs.State.{State, resetState}
+use Rattle.device.specs.Step.{step}
+use Rattle.device.specs.declared.event.Block.{Block}
+use Rattle.device.specs.declared.event.Event.{Event}
+use Rattle.device.specs.declared.event.Event.the-variants.{Register, Memory}
+use Rattle.map.specs.Map.{rowsOf}
+
+-- ---- the events of the examples
+
+abbrev pub reads : Block → ℕ → Bool → Bool → Event
+reads block offset secure privileged =
+    Register (record {
+      block = block;
+      request = record { offset = offset; write = false; value = 0; secure = secure; privileged = privileged };
+    })
+
+abbrev pub writes : Block → ℕ → ℕ → Bool → Bool → Event
+writes block offset value secure privileged =
+    Register (record {
+      block = block;
+      request = record { offset = offset; write = true; value = value; secure = secure; privileged = privileged };
+    })
+
+-- at guard n, one byte wide
+abbrev pub asks : ℕ → ℕ → Bool → ℕ → Bool → Bool → Event
+asks n offset write cid secure privileged =
+    Memory (record {
+      guard = record { 0 = n };
+      offset = offset;
+      width = 1;
+      kind = record { cid = record { 0 = cid }; write = write; privileged = privileged; secure = secure };
+    })
+
+-- ---- a line of an example, and an example
+
+pub data Line : Type 0 where
+  -- the event is answered with this number and value
+  gives : Event → ℕ → ℕ → Line
+  -- the rows of the guard's map are these numbers
+  prints : ℕ → List ℕ → Line
+
+-- the lines hold one after the other, from a state on
+unfoldable pub Holds : List Line → State → Type 0
+Holds [] s = Unit {0}
+Holds (gives e number value ∷ ls) s =
+    (numberOf (step e s .answer) ≡ number) × (valueOf (step e s .answer) ≡ value) × Holds ls (step e s .next)
+Holds (prints n rows ∷ ls) s = (flat (rowsOf s n) ≡ rows) × Holds ls s
+
+-- each example holds from reset
+unfoldable pub AllHold : List (List Line) → Type 0
+AllHold [] = Unit {0}
+AllHold (x ∷ xs) = Holds x resetState × AllHold xs

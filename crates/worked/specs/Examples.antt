@@ -1,0 +1,122 @@
+-- Document 01's marked examples, W1 to W14. Register offsets of guard 2: region 1 is at 040, its subregion A at 050.
+use mathlib.Core.Bool.{true, false}
+use mathlib.Core.List.{List, [], _∷_, _++_}
+use Prim.Native.Nat.{ℕ}
+use Rattle.device.specs.declared.event.Block.{Block}
+use Rattle.device.specs.declared.event.Block.the-variants.{Rifsc, Iac, Risaf}
+use Rattle.worked.specs.Example.{Line, gives, prints, reads, writes, asks}
+
+abbrev guard2 : Block
+guard2 = Risaf (record { 0 = 2 })
+
+-- guard 2, offset 0, read, CID 1 secure privileged: 0, rule 0
+abbrev pub w1 : List Line
+w1 = gives (asks 2 0 false 1 true true) 0 0 ∷ []
+
+-- CID 2: 1; ISR4 00001000, IAESR 00000032
+abbrev pub w2 : List Line
+w2 =
+    gives (asks 2 0 false 2 true true) 1 0
+    ∷ gives (reads Iac 0x090 true true) 0 0x0000_1000
+    ∷ gives (reads guard2 0x020 true true) 0 0x0000_0032
+    ∷ []
+
+-- after W2, nonsecure write CID 3 at 40: 1, IAESR still 00000032
+abbrev pub w3 : List Line
+w3 = w2 ++ gives (asks 2 0x40 true 3 false true) 1 0 ∷ gives (reads guard2 0x020 true true) 0 0x0000_0032 ∷ []
+
+-- CID 7 secure privileged granted; CID 7 nonsecure refused
+abbrev pub w4 : List Line
+w4 = gives (asks 2 0 false 7 true true) 0 0 ∷ gives (asks 2 0 false 7 false true) 1 0 ∷ []
+
+-- ATTR1 write 00000370 reads 00000300
+abbrev pub w5 : List Line
+w5 = gives (writes Rifsc 0xc14 0x0000_0370 true true) 0 0 ∷ gives (reads Rifsc 0xc14 true true) 0 0x0000_0300 ∷ []
+
+-- RIMC_CR write 00000101 reads 00000111; a next write gets 2
+abbrev pub w6 : List Line
+w6 =
+    gives (writes Rifsc 0xc00 0x0000_0101 true true) 0 0
+    ∷ gives (reads Rifsc 0xc00 true true) 0 0x0000_0111
+    ∷ gives (writes Rifsc 0xc00 0x0000_0101 true true) 2 0
+    ∷ []
+
+-- SECCFGR0 write FFFFFFFF reads FFFFFF7F
+abbrev pub w7 : List Line
+w7 = gives (writes Rifsc 0x010 0xffff_ffff true true) 0 0 ∷ gives (reads Rifsc 0x010 true true) 0 0xffff_ff7f ∷ []
+
+-- then RCFGLOCKR0 write 1, SECCFGR0 write 0: answer 0, reads 00000001
+abbrev pub w8 : List Line
+w8 =
+    w7
+    ++ gives (writes Rifsc 0x050 0x0000_0001 true true) 0 0
+    ∷ gives (writes Rifsc 0x010 0x0000_0000 true true) 0 0
+    ∷ gives (reads Rifsc 0x010 true true) 0 0x0000_0001
+    ∷ []
+
+-- then nonsecure privileged PRIVCFGR0 write 3: answer 0, reads 00000002
+abbrev pub w9 : List Line
+w9 =
+    w8
+    ++ gives (writes Rifsc 0x030 0x0000_0003 false true) 0 0
+    ∷ gives (reads Rifsc 0x030 true true) 0 0x0000_0002
+    ∷ []
+
+-- nonsecure read of IER0: 1, ISR4 00000400
+abbrev pub w10 : List Line
+w10 = gives (reads Iac 0x000 false true) 1 0 ∷ gives (reads Iac 0x090 true true) 0 0x0000_0400 ∷ []
+
+-- guard 2 region 1: START 00010000, END 0001FFFF, CIDCFGR 00040006, CFGR 00000001
+abbrev region1 : List Line
+region1 =
+    gives (writes guard2 0x044 0x0001_0000 true true) 0 0
+    ∷ gives (writes guard2 0x048 0x0001_ffff true true) 0 0
+    ∷ gives (writes guard2 0x04c 0x0004_0006 true true) 0 0
+    ∷ gives (writes guard2 0x040 0x0000_0001 true true) 0 0
+    ∷ []
+
+-- nonsecure unprivileged one-byte read, CID 2: granted at 10000 and 1FFFF by rule 1, refused at FFFF and 20000
+abbrev pub w11 : List Line
+w11 =
+    region1
+    ++ gives (asks 2 0x1_0000 false 2 false false) 0 1
+    ∷ gives (asks 2 0x1_ffff false 2 false false) 0 1
+    ∷ gives (asks 2 0x0_ffff false 2 false false) 1 0
+    ∷ gives (asks 2 0x2_0000 false 2 false false) 1 0
+    ∷ []
+
+-- then A 10000 to 10FFF, CFGR 00001121: at 10000 nonsecure CID 2 read granted by rule 2; secure, CID 1, or a write refused
+abbrev pub w12 : List Line
+w12 =
+    w11
+    ++ gives (writes guard2 0x054 0x0001_0000 true true) 0 0
+    ∷ gives (writes guard2 0x058 0x0001_0fff true true) 0 0
+    ∷ gives (writes guard2 0x050 0x0000_1121 true true) 0 0
+    ∷ gives (asks 2 0x1_0000 false 2 false false) 0 2
+    ∷ gives (asks 2 0x1_0000 false 2 true true) 1 0
+    ∷ gives (asks 2 0x1_0000 false 1 false false) 1 0
+    ∷ gives (asks 2 0x1_0000 true 2 false false) 1 0
+    ∷ []
+
+-- map after W11: 0 to FFFF 8282000000000000; 10000 to 1FFFF 0000000084868486; 20000 to FFFFF 8282000000000000
+abbrev pub w13 : List Line
+w13 =
+    w11
+    ++ prints 2
+    (0x0_0000 ∷ 0x0_ffff ∷ 0x8282_0000_0000_0000
+    ∷ 0x1_0000 ∷ 0x1_ffff ∷ 0x0000_0000_8486_8486
+    ∷ 0x2_0000 ∷ 0xf_ffff ∷ 0x8282_0000_0000_0000
+    ∷ [])
+    ∷ []
+
+-- START write 00010FFF reads 00010000; END write 00010000 reads 00010FFF
+abbrev pub w14 : List Line
+w14 =
+    gives (writes guard2 0x044 0x0001_0fff true true) 0 0
+    ∷ gives (reads guard2 0x044 true true) 0 0x0001_0000
+    ∷ gives (writes guard2 0x048 0x0001_0000 true true) 0 0
+    ∷ gives (reads guard2 0x048 true true) 0 0x0001_0fff
+    ∷ []
+
+unfoldable pub worked : List (List Line)
+worked = w1 ∷ w2 ∷ w3 ∷ w4 ∷ w5 ∷ w6 ∷ w7 ∷ w8 ∷ w9 ∷ w10 ∷ w11 ∷ w12 ∷ w13 ∷ w14 ∷ []
