@@ -101,26 +101,46 @@ rifsc-stored m Cr v h = cr-stored m v (omega arith)
 rifsc-stored m (Seccfgr x) v h =
     in-part m v 1 6 x h (omega arith)
     (λ l p. rifscFrom l ≡ record {
-      cr = getD m 0 0; seccfgr = p; privcfgr = part 7 6 m; rcfglockr = part 13 6 m; rimccr = getD m 19 0; attr = part 20 13 m;
+      cr = getD m 0 0;
+      seccfgr = p;
+      privcfgr = part 7 6 m;
+      rcfglockr = part 13 6 m;
+      rimccr = getD m 19 0;
+      attr = part 20 13 m;
     })
     (sec-stored m v x) refl
 rifsc-stored m (Privcfgr x) v h =
     in-part m v 7 6 x h (omega arith)
     (λ l p. rifscFrom l ≡ record {
-      cr = getD m 0 0; seccfgr = part 1 6 m; privcfgr = p; rcfglockr = part 13 6 m; rimccr = getD m 19 0; attr = part 20 13 m;
+      cr = getD m 0 0;
+      seccfgr = part 1 6 m;
+      privcfgr = p;
+      rcfglockr = part 13 6 m;
+      rimccr = getD m 19 0;
+      attr = part 20 13 m;
     })
     (priv-stored m v x) refl
 rifsc-stored m (Rcfglockr x) v h =
     in-part m v 13 6 x h (omega arith)
     (λ l p. rifscFrom l ≡ record {
-      cr = getD m 0 0; seccfgr = part 1 6 m; privcfgr = part 7 6 m; rcfglockr = p; rimccr = getD m 19 0; attr = part 20 13 m;
+      cr = getD m 0 0;
+      seccfgr = part 1 6 m;
+      privcfgr = part 7 6 m;
+      rcfglockr = p;
+      rimccr = getD m 19 0;
+      attr = part 20 13 m;
     })
     (rlock-stored m v x) refl
 rifsc-stored m Rimccr v h = rimc-stored m v (omega arith)
 rifsc-stored m (Attr x) v h =
     in-part m v 20 13 x h (omega arith)
     (λ l p. rifscFrom l ≡ record {
-      cr = getD m 0 0; seccfgr = part 1 6 m; privcfgr = part 7 6 m; rcfglockr = part 13 6 m; rimccr = getD m 19 0; attr = p;
+      cr = getD m 0 0;
+      seccfgr = part 1 6 m;
+      privcfgr = part 7 6 m;
+      rcfglockr = part 13 6 m;
+      rimccr = getD m 19 0;
+      attr = p;
     })
     (attr-stored m v x) refl
 rifsc-stored m (Ppsr x) v h = ap rifscFrom (set-out m stateWords v (omega arith))

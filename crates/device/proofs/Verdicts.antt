@@ -58,10 +58,11 @@ module _ (m : List ℕ) (n o : ℕ) (k : Kind) (l : length m ≡ stateWords) (h 
   unfolding decidedIn verdictOf
   verdict-here =
       let e : enough (part (guardPlace n + 4) 132 m) (shapeOf n .regions) ≡ true =
-      simp
-      (le-leb (shapeOf n .regions) 11 (regions-most n),
-      le-leb (12 * shapeOf n .regions) (length (part (guardPlace n + 4) 132 m))
-      (omega (arith, regions-most n, part-length (guardPlace n + 4) 132 m (omega (arith, guard-fits n h))))) in
+      simp (
+        le-leb (shapeOf n .regions) 11 (regions-most n),
+        le-leb (12 * shapeOf n .regions) (length (part (guardPlace n + 4) 132 m))
+            (omega (arith, regions-most n, part-length (guardPlace n + 4) 132 m (omega (arith, guard-fits n h)))),
+      ) in
       rw (e, h, regions-here)
 
 pub verdict-none : (s : State) (n o : ℕ) (k : Kind) → isGuard n ≡ false → record { rule = 0; granted = false } ≡ verdictOf s n o k

@@ -1,12 +1,17 @@
-use access::Answer;
-use crate::event::{Block, Event, MasterAccess, MemoryAccess, RegisterAccess};
+use crate::event::Block;
+use crate::event::Event;
+use crate::event::MasterAccess;
+use crate::event::MemoryAccess;
+use crate::event::RegisterAccess;
 use crate::flags::flag_line;
 use crate::lent::word_in;
 use crate::memory::access_memory;
 use crate::peripherals::access_peripheral;
-use crate::registers::{access_guard, access_iac, access_rifsc};
+use crate::registers::access_guard;
+use crate::registers::access_iac;
+use crate::registers::access_rifsc;
 use crate::reset::reset;
-
+use access::Answer;
 ghost use mathlib.Core.Path.{_≡_};
 ghost use lib.ListN.{length};
 ghost use Rattle.device.specs.Applied.{appliedAnswer, appliedState, lineAnswer};

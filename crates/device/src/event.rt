@@ -1,5 +1,7 @@
-use access::{Kind, Request};
-use rifsc::{MasterNumber, PeripheralNumber};
+use access::Kind;
+use access::Request;
+use rifsc::MasterNumber;
+use rifsc::PeripheralNumber;
 use risaf::GuardNumber;
 
 // The block whose registers are accessed.

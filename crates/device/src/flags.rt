@@ -1,6 +1,6 @@
-use crate::lent::{store, word_in};
+use crate::lent::store;
+use crate::lent::word_in;
 use crate::places::iac_place;
-
 ghost use mathlib.Core.Path.{_≡_};
 ghost use lib.ListN.{length, getD};
 ghost use Rattle.iac.specs.Flags.{lineOf};

@@ -10,5 +10,13 @@ mod places;
 mod registers;
 mod reset;
 
-pub use applied::{STATE_WORDS, apply, interrupt_line};
-pub use event::{Block, Event, MasterAccess, MemoryAccess, Operation, PeripheralAccess, RegisterAccess};
+pub use applied::STATE_WORDS;
+pub use applied::apply;
+pub use applied::interrupt_line;
+pub use event::Block;
+pub use event::Event;
+pub use event::MasterAccess;
+pub use event::MemoryAccess;
+pub use event::Operation;
+pub use event::PeripheralAccess;
+pub use event::RegisterAccess;

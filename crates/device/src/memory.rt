@@ -1,10 +1,14 @@
-use access::{Answer, Kind};
-use risaf::{GuardNumber, Verdict};
-use risaf::memory::{iaddr_faulted, iaesr_faulted, iasr_faulted, memory_answer};
 use crate::flags::raise;
 use crate::outcome::is_refused;
 use crate::places::guard_place;
-
+use access::Answer;
+use access::Kind;
+use risaf::GuardNumber;
+use risaf::Verdict;
+use risaf::memory::iaddr_faulted;
+use risaf::memory::iaesr_faulted;
+use risaf::memory::iasr_faulted;
+use risaf::memory::memory_answer;
 ghost use mathlib.Core.Bool.{true};
 ghost use mathlib.Core.Path.{_≡_};
 ghost use Prim.Native.Nat.{_+_, _≤_};
@@ -56,7 +60,14 @@ fn fault(state: &mut [u32], guard: GuardNumber, o: u32, k: Kind)
 }
 
 // A memory access: granted, it writes nothing.
-pub(crate) fn access_memory(state: &mut [u32], there: bool, guard: GuardNumber, o: u32, width: u32, k: Kind) -> Answer
+pub(crate) fn access_memory(
+    state: &mut [u32],
+    there: bool,
+    guard: GuardNumber,
+    o: u32,
+    width: u32,
+    k: Kind,
+) -> Answer
     requires { ⌜ length (now state) ≡ stateWords ⌝ }
     ensures answer { λ r. ⌜ r ≡ memoryStep there (guard .0) o width k (stateOf (now (state .entry))) .answer ⌝ }
     ensures next { λ _. ⌜ stateOf (now (state .exit)) ≡ memoryStep there (guard .0) o width k (stateOf (now (state .entry))) .next ⌝ }

@@ -1,5 +1,4 @@
 use access::Answer;
-
 ghost use mathlib.Core.Path.{_≡_};
 ghost use Rattle.device.specs.InPlace.{isDone, isRefused};
 

@@ -1,9 +1,10 @@
-use access::{Answer, Checks};
-use crate::event::{Operation, PeripheralAccess};
+use crate::event::Operation;
+use crate::event::PeripheralAccess;
 use crate::flags::raise;
 use crate::lent::word_in;
 use crate::outcome::is_refused;
-
+use access::Answer;
+use access::Checks;
 ghost use mathlib.Core.Path.{_≡_};
 ghost use lib.ListN.{length};
 ghost use Rattle.device.specs.Layout.{stateOf, stateWords};

@@ -1,10 +1,14 @@
-use access::{Answer, Request};
-use risaf::GuardNumber;
 use crate::flags::raise;
-use crate::lent::{store, word_in};
-use crate::outcome::{is_done, is_refused};
-use crate::places::{guard_place, iac_place, rifsc_place};
-
+use crate::lent::store;
+use crate::lent::word_in;
+use crate::outcome::is_done;
+use crate::outcome::is_refused;
+use crate::places::guard_place;
+use crate::places::iac_place;
+use crate::places::rifsc_place;
+use access::Answer;
+use access::Request;
+use risaf::GuardNumber;
 ghost use mathlib.Core.Bool.{true, cond};
 ghost use mathlib.Core.Path.{_≡_};
 ghost use Prim.Native.Nat.{_+_};
@@ -65,7 +69,11 @@ pub(crate) fn access_rifsc(state: &mut [u32], q: Request) -> Answer
         return answer;
     }
     if is_done(answer) & q.write {
-        store(state, rifsc_place(reg), rifsc::port::word_written(reg, v, q.value, q.secure));
+        store(
+            state,
+            rifsc_place(reg),
+            rifsc::port::word_written(reg, v, q.value, q.secure),
+        );
     }
     answer
 }
@@ -98,7 +106,11 @@ pub(crate) fn access_iac(state: &mut [u32], q: Request) -> Answer
         return answer;
     }
     if is_done(answer) & q.write {
-        store(state, iac_place(reg), iac::port::word_written(reg, old, q.value));
+        store(
+            state,
+            iac_place(reg),
+            iac::port::word_written(reg, old, q.value),
+        );
     }
     answer
 }
@@ -107,7 +119,11 @@ pub(crate) fn access_iac(state: &mut [u32], q: Request) -> Answer
 fn guard_base(guard: GuardNumber) -> usize
     ensures { λ r. ⌜ r ≡ cond (isGuard (guard .0)) (guardPlace (guard .0)) 45 ⌝ }
 {
-    if guard.exists() { guard_place(guard.0) } else { 45 }
+    if guard.exists() {
+        guard_place(guard.0)
+    } else {
+        45
+    }
 }
 
 // What a refused register access to a guard leaves: CAEF set, and its flag.

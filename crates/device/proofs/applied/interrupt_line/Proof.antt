@@ -14,10 +14,15 @@ returns-2 : tie.Need-returns-2
 unfolding lineAnswer line stateOf iacFrom
 returns-2 c =
     let f = c .before .before .before .before .before .before in
-    simp
-    (eq-eqb _ _ (f .if1 .left), c .flag-line6 .ensures, c .before .flag-line5 .ensures, c .before .before .flag-line4 .ensures,
-    c .before .before .before .flag-line3 .ensures, c .before .before .before .before .flag-line2 .ensures,
-    c .before .before .before .before .before .flag-line .ensures)
+    simp (
+      eq-eqb _ _ (f .if1 .left),
+      c .flag-line6 .ensures,
+      c .before .flag-line5 .ensures,
+      c .before .before .flag-line4 .ensures,
+      c .before .before .before .flag-line3 .ensures,
+      c .before .before .before .before .flag-line2 .ensures,
+      c .before .before .before .before .before .flag-line .ensures,
+    )
 
 pub interrupt-line-spec : {M : Type 1} → statement M
 interrupt-line-spec =

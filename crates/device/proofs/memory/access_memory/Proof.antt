@@ -31,8 +31,8 @@ returns c =
     let ea = m .memory-answer .ensures in (
       answer-by (a .there) (a .guard .0) (a .o) (a .width) (a .k) (stateOf (a .state .now)) ev eg es ea,
       c .before .before .fault .ensures
-      ∙ refused-by (a .there) (a .guard .0) (a .o) (a .width) (a .k) (stateOf (a .state .now)) ev eg es ea
-      (sym (r .is-refused .ensures) ∙ i .if1 .taken),
+          ∙ refused-by (a .there) (a .guard .0) (a .o) (a .width) (a .k) (stateOf (a .state .now)) ev eg es ea
+          (sym (r .is-refused .ensures) ∙ i .if1 .taken),
     )
 
 returns-2 : tie.Need-returns-2
@@ -48,7 +48,7 @@ returns-2 c =
     let ea = m .memory-answer .ensures in (
       answer-by (a .there) (a .guard .0) (a .o) (a .width) (a .k) (stateOf (a .state .now)) ev eg es ea,
       kept-by (a .there) (a .guard .0) (a .o) (a .width) (a .k) (stateOf (a .state .now)) ev eg es ea
-      (sym (r .is-refused .ensures) ∙ c .if1 .left),
+          (sym (r .is-refused .ensures) ∙ c .if1 .left),
     )
 
 pub access-memory-spec : {M : Type 1} → statement M

@@ -105,8 +105,8 @@ returns-2 c =
     let wr = second (isDone (a .answer .result)) (q .write) done in (
       ea,
       ap stateOf (c .before .before .store .ensures ∙ rw (p .place .ensures))
-      ∙ guard-effect m n (s .pre) q (e .exists .ensures) (b .guard-base .ensures) er ev (done-guard m n (s .pre) q (e .exists .ensures) (b .guard-base .ensures) er ev (a .answer .ensures) is) (done-writable m n (s .pre) q (e .exists .ensures) (b .guard-base .ensures) er ev (a .answer .ensures) is wr) wr (v .word-written .ensures)
-      ∙ register-written (Risaf n) q (stateOf m) ea (sym (t .is-refused .ensures) ∙ f .if1 .left) done,
+          ∙ guard-effect m n (s .pre) q (e .exists .ensures) (b .guard-base .ensures) er ev (done-guard m n (s .pre) q (e .exists .ensures) (b .guard-base .ensures) er ev (a .answer .ensures) is) (done-writable m n (s .pre) q (e .exists .ensures) (b .guard-base .ensures) er ev (a .answer .ensures) is wr) wr (v .word-written .ensures)
+          ∙ register-written (Risaf n) q (stateOf m) ea (sym (t .is-refused .ensures) ∙ f .if1 .left) done,
     )
 
 returns-3 : tie.Need-returns-3

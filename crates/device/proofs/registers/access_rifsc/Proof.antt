@@ -42,8 +42,8 @@ returns-2 c =
     let done = ap (λ (x : Bool). x && q .write) (sym (d .is-done .ensures)) ∙ t .if2 .taken in (
       ea,
       ap stateOf (c .before .before .store .ensures ∙ rw (p .rifsc-place .ensures))
-      ∙ rifsc-effect m q (g .register-at .ensures) (w .rifsc-seen .ensures) (s .pre) (second (isDone (b .answer .result)) (q .write) done) (c .before .before .before .word-written .ensures)
-      ∙ register-written Rifsc q (stateOf m) ea (sym (r .is-refused .ensures) ∙ f .if1 .left) done,
+          ∙ rifsc-effect m q (g .register-at .ensures) (w .rifsc-seen .ensures) (s .pre) (second (isDone (b .answer .result)) (q .write) done) (c .before .before .before .word-written .ensures)
+          ∙ register-written Rifsc q (stateOf m) ea (sym (r .is-refused .ensures) ∙ f .if1 .left) done,
     )
 
 returns-3 : tie.Need-returns-3

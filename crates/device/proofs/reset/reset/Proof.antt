@@ -44,7 +44,7 @@ loop-again c =
       omega (arith, t .loop-test .taken),
       omega (arith, u .put2 .kept .0, l .loop .inv .1),
       ap (take (45 + 136 * (l .loop .i + 1))) (u .put2 .ensures ∙ ap (λ (w : List ℕ). paste (l .loop .state) (45 + 136 * l .loop .i) w (length w)) g)
-      ∙ guards-more (l .loop .state) (l .loop .i) (l .loop .inv .1) (t .loop-test .taken) (l .loop .inv .2),
+          ∙ guards-more (l .loop .state) (l .loop .i) (l .loop .inv .1) (t .loop-test .taken) (l .loop .inv .2),
     )
 
 same-length : tie.Need-same-length Inv-loop μ-loop
