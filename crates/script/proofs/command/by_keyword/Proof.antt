@@ -1,0 +1,108 @@
+-- `script::command::by_keyword` meets its contract: the keywords compared so far leave the later lines.
+use borrow.Author.Needs.{needs}
+use mathlib.Core.List.{List}
+use mathlib.Core.Path.{_≡_, sym, ap, _∙_}
+use Prim.Native.Nat.{ℕ}
+use lib.ListN.{drop}
+use Rattle.script.specs.Fields.{fieldsOf}
+use Rattle.script.specs.Command.{byKeyword, commandIn, linesOf, resetOf}
+use Rattle.script.proofs.Cuts.{some-field}
+use Rattle.script.proofs.Lines.{counts, counts-not, its-keyword, other-keyword, told}
+use Rattle.script.proofs.command.by_keyword.Statement.{statement}
+use Rattle.script.proofs.command.by_keyword.Tie as tie
+
+abbrev fields : tie.After-field → List (List ℕ)
+fields c = fieldsOf (c .before .before .args .line .now)
+
+-- the line is none of the first k
+abbrev Past : ℕ → tie.After-field → Type 0
+Past k c = commandIn (fields c) ≡ byKeyword (c .field .result .now) (drop k (linesOf (fields c)))
+
+past0 : (c : tie.After-field) → Past 0 c
+past0 c = ap (λ (w : List ℕ). byKeyword w (linesOf (fields c))) (sym (c .field .ensures))
+
+past1 : (c : tie.Else1) → Past 1 (c .before .before .before)
+unfolding linesOf
+past1 c = past0 (c .before .before .before) ∙ other-keyword _ _ _ (told (c .before .is .ensures) (c .if1 .left))
+
+past2 : (c : tie.Else3) → Past 2 (c .before .before .before .before .before .before)
+unfolding linesOf
+past2 c = past1 (c .before .before .before) ∙ other-keyword _ _ _ (told (c .before .is2 .ensures) (c .if3 .left))
+
+past3 : (c : tie.Else4) → Past 3 (c .before .before .before .before .before .before .before .before .before)
+unfolding linesOf
+past3 c = past2 (c .before .before .before) ∙ other-keyword _ _ _ (told (c .before .is3 .ensures) (c .if4 .left))
+
+past4 : (c : tie.Else5) → Past 4 (c .before .before .before .before .before .before .before .before .before .before .before .before)
+unfolding linesOf
+past4 c = past3 (c .before .before .before) ∙ other-keyword _ _ _ (told (c .before .is4 .ensures) (c .if5 .left))
+
+past5 : (c : tie.Else6) → Past 5 (c .before .before .before .before .before .before .before .before .before .before .before .before .before .before .before)
+unfolding linesOf
+past5 c = past4 (c .before .before .before) ∙ other-keyword _ _ _ (told (c .before .is5 .ensures) (c .if6 .left))
+
+past6 : (c : tie.Else7) → Past 6 (c .before .before .before .before .before .before .before .before .before .before .before .before .before .before .before .before .before .before)
+unfolding linesOf
+past6 c = past5 (c .before .before .before) ∙ other-keyword _ _ _ (told (c .before .is6 .ensures) (c .if7 .left))
+
+field-requires : tie.Need-field-requires
+field-requires c κs = (c .before .pre .0, some-field _)
+
+returns : tie.Need-returns
+unfolding linesOf resetOf
+returns c =
+    sym
+    (past0 (c .before .before .before .before)
+    ∙ its-keyword _ _ _ (told (c .before .before .is .ensures) (c .before .if1 .taken))
+    ∙ rw (counts 1 _ (c .before .before .before .before .before .before .pre .1) (c .if2 .taken)))
+
+returns-2 : tie.Need-returns-2
+unfolding linesOf resetOf
+returns-2 c =
+    sym
+    (past0 (c .before .before .before .before)
+    ∙ its-keyword _ _ _ (told (c .before .before .is .ensures) (c .before .if1 .taken))
+    ∙ rw (counts-not 1 _ (c .before .before .before .before .before .before .pre .1) (c .if2 .left)))
+
+returns-3 : tie.Need-returns-3
+unfolding linesOf
+returns-3 c =
+    c .register .ensures
+    ∙ sym (past1 (c .before .before .before .before) ∙ its-keyword _ _ _ (told (c .before .before .is2 .ensures) (c .before .if3 .taken)))
+
+returns-4 : tie.Need-returns-4
+unfolding linesOf
+returns-4 c =
+    c .peripheral .ensures
+    ∙ sym (past2 (c .before .before .before .before) ∙ its-keyword _ _ _ (told (c .before .before .is3 .ensures) (c .before .if4 .taken)))
+
+returns-5 : tie.Need-returns-5
+unfolding linesOf
+returns-5 c =
+    c .memory .ensures
+    ∙ sym (past3 (c .before .before .before .before) ∙ its-keyword _ _ _ (told (c .before .before .is4 .ensures) (c .before .if5 .taken)))
+
+returns-6 : tie.Need-returns-6
+unfolding linesOf
+returns-6 c =
+    c .master .ensures
+    ∙ sym (past4 (c .before .before .before .before) ∙ its-keyword _ _ _ (told (c .before .before .is5 .ensures) (c .before .if6 .taken)))
+
+returns-7 : tie.Need-returns-7
+unfolding linesOf
+returns-7 c =
+    c .map .ensures
+    ∙ sym (past5 (c .before .before .before .before) ∙ its-keyword _ _ _ (told (c .before .before .is6 .ensures) (c .before .if7 .taken)))
+
+returns-8 : tie.Need-returns-8
+unfolding linesOf byKeyword
+returns-8 c = sym (past6 c)
+
+pub by-keyword-spec : {M : Type 1} → statement M
+by-keyword-spec =
+    tie.close
+    (tie.spec field-requires (λ c. search needs) (λ c κs. search needs) returns returns-2 (λ c. search needs)
+    (λ c κs. search needs) (λ c κs. search needs) returns-3 (λ c. search needs) (λ c κs. search needs)
+    (λ c κs. search needs) returns-4 (λ c. search needs) (λ c κs. search needs) (λ c κs. search needs) returns-5
+    (λ c. search needs) (λ c κs. search needs) (λ c κs. search needs) returns-6 (λ c. search needs)
+    (λ c κs. search needs) (λ c κs. search needs) returns-7 returns-8)

@@ -1,0 +1,36 @@
+-- `script::events::rights_at` meets its contract: each field read so far says how the line goes on.
+use borrow.Author.Needs.{needs}
+use Rattle.script.specs.Command.{rightsOf}
+use Rattle.script.proofs.Lines.{told}
+use Rattle.script.proofs.events.rights_at.Statement.{statement}
+use Rattle.script.proofs.events.rights_at.Tie as tie
+
+returns : tie.Need-returns
+unfolding rightsOf
+returns c =
+    rw (told (c .before .before .either-at .ensures) (c .enum-told .given .1))
+
+returns-2 : tie.Need-returns-2
+unfolding rightsOf
+returns-2 c =
+    let secure = c .before .before .before .before in
+    rw (
+      told (secure .before .before .either-at .ensures) (secure .secure .given .1),
+      told (c .before .before .either-at2 .ensures) (c .enum-told2 .given .1),
+    )
+
+returns-3 : tie.Need-returns-3
+unfolding rightsOf
+returns-3 c =
+    let privileged = c .before in
+    let secure = privileged .before .before .before .before in
+    rw (
+      told (secure .before .before .either-at .ensures) (secure .secure .given .1),
+      told (privileged .before .before .either-at2 .ensures) (privileged .privileged .given .1),
+    )
+
+pub rights-at-spec : {M : Type 1} → statement M
+rights-at-spec =
+    tie.close
+    (tie.spec (λ c κs. search needs) (λ c. search needs) (λ c. search needs) returns (λ c. search needs)
+    (λ c κs. search needs) (λ c. search needs) (λ c. search needs) returns-2 returns-3)

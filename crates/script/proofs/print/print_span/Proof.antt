@@ -1,0 +1,65 @@
+-- `script::print::print_span` meets its contract: its parts, one after the other, are the line.
+use borrow.Author.Needs.{needs}
+use native.Mathlib.Omega.{arith}
+use Rattle.script.specs.Print.{spanLine}
+use Rattle.script.proofs.Digits.{ended-length, span-length}
+use Rattle.script.proofs.Writing.{join, refused, whole}
+use Rattle.script.proofs.print.print_span.Statement.{statement}
+use Rattle.script.proofs.print.print_span.Tie as tie
+
+returns : tie.Need-returns
+returns c =
+    let a = c .before .before .args in
+    refused (a .out .now) (a .at) (spanLine (a .start) (a .end) (a .rights)) (omega arith)
+
+returns-2 : tie.Need-returns-2
+returns-2 c =
+    let a = c .before .before .before .args in
+    refused (a .out .now) (a .at) (spanLine (a .start) (a .end) (a .rights))
+    (omega (arith, span-length (a .start) (a .end) (a .rights)))
+
+put-hex-requires-2 : tie.Need-put-hex-requires-2
+put-hex-requires-2 c κs =
+    let d = c .before .before .before in
+    let a = d .before .before .before .before in
+    omega (
+      arith,
+      d .put-hex .ensures .next,
+      d .put-hex .kept .0,
+      a .put .ensures .next,
+      a .put .kept .0,
+      ended-length 16 8 (a .before .before .before .before .before .before .args .start) 9,
+    )
+
+put-hex-requires-3 : tie.Need-put-hex-requires-3
+put-hex-requires-3 c κs =
+    let e = c .before .before .before in
+    let d = e .before .before .before .before in
+    let a = d .before .before .before .before in
+    omega (
+      arith,
+      e .put-hex2 .ensures .next,
+      e .put-hex2 .kept .0,
+      d .put-hex .ensures .next,
+      d .put-hex .kept .0,
+      a .put .ensures .next,
+      a .put .kept .0,
+      ended-length 16 8 (a .before .before .before .before .before .before .args .start) 9,
+      ended-length 16 8 (a .before .before .before .before .before .before .args .end) 9,
+      a .before .before .before .if2 .left,
+      a .before .before .before .before .if1 .left,
+    )
+
+returns-3 : tie.Need-returns-3
+unfolding spanLine
+returns-3 c =
+    whole
+    (join
+    (join (join (c .before .before .before .before .before .before .before .before .before .before .before .before .before .before .put .ensures) (c .before .before .before .before .before .before .before .before .before .before .put-hex .ensures)) (c .before .before .before .before .before .before .put-hex2 .ensures))
+    (c .before .before .put-hex3 .ensures))
+
+pub print-span-spec : {M : Type 1} → statement M
+print-span-spec =
+    tie.close
+    (tie.spec returns (λ c. search needs) returns-2 (λ c. search needs) (λ c κs. search needs) (λ c κs. search needs)
+    put-hex-requires-2 put-hex-requires-3 (λ c. search needs) returns-3)

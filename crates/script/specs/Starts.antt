@@ -1,0 +1,20 @@
+-- A table of where a line's fields start, which is what code goes by.
+use mathlib.Core.Bool.{cond}
+use mathlib.Core.List.{List, [], _∷_}
+use mathlib.Core.Path.{_≡_}
+use Prim.Native.Nat.{ℕ, suc}
+use lib.Dec.{eqb}
+use lib.ListN.{length, take}
+use Rattle.script.specs.Fields.{tab, fieldsOf}
+
+-- of a line's bytes from place i on: one past each tab, and one past the end
+unfoldable pub startsFrom : ℕ → List ℕ → List ℕ
+startsFrom i [] = suc i ∷ []
+startsFrom i (b ∷ bs) =
+    let rest = startsFrom (suc i) bs in
+    cond (eqb b tab) (suc i ∷ rest) rest
+
+-- a table of 66 entries that begins with the start of each field, and one past the line's end
+pub record Cut (line table : List ℕ) : Type 0 where
+  pub long : length table ≡ 66
+  pub starts : take (suc (length (fieldsOf line))) table ≡ 0 ∷ startsFrom 0 line

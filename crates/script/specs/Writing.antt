@@ -1,0 +1,22 @@
+-- A line written at a place of a buffer.
+use mathlib.Core.Bool.{Bool, cond}
+use mathlib.Core.List.{List, _++_}
+use Prim.Native.Nat.{ℕ, _+_}
+use lib.Dec.{leb}
+use lib.ListN.{length, take, drop}
+
+-- out with the line in the place of as many bytes from `at` on
+abbrev pub over : List ℕ → ℕ → List ℕ → List ℕ
+over out at line = take at out ++ line ++ drop (at + length line) out
+
+-- there is room for the line
+abbrev pub fits : List ℕ → ℕ → List ℕ → Bool
+fits out at line = leb (at + length line) (length out)
+
+-- what the buffer holds: where there is no room, what it held
+unfoldable pub written : List ℕ → ℕ → List ℕ → List ℕ
+written out at line = cond (fits out at line) (over out at line) out
+
+-- the next place: where there is no room, the same
+unfoldable pub after : List ℕ → ℕ → List ℕ → ℕ
+after out at line = cond (fits out at line) (at + length line) at

@@ -1,0 +1,166 @@
+use risaf::GuardNumber;
+ghost use mathlib.Core.List.{[], _∷_, _++_};
+ghost use mathlib.Core.Path.{_≡_};
+ghost use Prim.Native.Nat.{_+_, _≤_, _<_};
+ghost use lib.ListN.{length};
+ghost use Rattle.script.specs.Print.{
+  answerLine,
+  badLine,
+  character,
+  decimalText,
+  digitsOf,
+  endLine,
+  guardLine,
+  labelLine,
+  spanLine,
+  widthOf,
+};
+ghost use Rattle.script.specs.Writing.{after, written};
+ghost use Rattle.script.specs.Parts.{Wrote};
+
+// Writes the bytes from `at` on. The place after them.
+fn put(out: &mut [u8], at: usize, bytes: &[u8]) -> usize
+    requires { ⌜ at + length (now bytes) ≤ length (now out) ⌝ }
+    ensures { λ r. ⌜ Wrote (now (out .entry)) at (now (bytes .entry)) (now (out .exit)) r ⌝ }
+{
+    let mut i = 0;
+    while i < bytes.len() {
+        out[at + i] = bytes[i];
+        i += 1;
+    }
+    at + i
+}
+
+// The character of a digit, 0 to 9 and a to f.
+fn character(d: u64) -> u8
+    requires { ⌜ d < 16 ⌝ }
+    ensures { λ r. ⌜ r ≡ character d ⌝ }
+{
+    if d < 10 {
+        b'0' + d as u8
+    } else {
+        b'a' + (d - 10) as u8
+    }
+}
+
+// Writes the last `count` hexadecimal digits of n, and the byte that ends them, from `at` on. The place after them.
+fn put_hex(out: &mut [u8], at: usize, n: u64, count: usize, end: u8) -> usize
+    requires { ⌜ at + count < length (now out) ⌝ }
+    ensures { λ r. ⌜ Wrote (now (out .entry)) at (digitsOf 16 count n ++ (end ∷ [])) (now (out .exit)) r ⌝ }
+{
+    let mut m = n;
+    let mut k = count;
+    while 0 < k {
+        k -= 1;
+        out[at + k] = character(m % 16);
+        m = m / 16;
+    }
+    out[at + count] = end;
+    at + count + 1
+}
+
+// Writes the last `count` decimal digits of n, and the byte that ends them, from `at` on. The place after them.
+fn put_decimal(out: &mut [u8], at: usize, n: u64, count: usize, end: u8) -> usize
+    requires { ⌜ at + count < length (now out) ⌝ }
+    ensures { λ r. ⌜ Wrote (now (out .entry)) at (digitsOf 10 count n ++ (end ∷ [])) (now (out .exit)) r ⌝ }
+{
+    let mut m = n;
+    let mut k = count;
+    while 0 < k {
+        k -= 1;
+        out[at + k] = character(m % 10);
+        m = m / 10;
+    }
+    out[at + count] = end;
+    at + count + 1
+}
+
+// How many decimal digits n has.
+fn width(n: u64) -> usize
+    ensures { λ r. ⌜ (r ≡ widthOf n) × (r ≤ 20) ⌝ }
+{
+    let mut m = n;
+    let mut k = 1;
+    while 10 <= m {
+        m = m / 10;
+        k += 1;
+    }
+    k
+}
+
+// A label and a number.
+fn print_labelled(out: &mut [u8], at: usize, label: &[u8], n: u64) -> usize
+    ensures next { λ r. ⌜ r ≡ after (now (out .entry)) at (labelLine (now (label .entry)) n) ⌝ }
+    ensures bytes { λ _. ⌜ now (out .exit) ≡ written (now (out .entry)) at (labelLine (now (label .entry)) n) ⌝ }
+{
+    let count = width(n);
+    if out.len() < at {
+        return at;
+    }
+    if out.len() - at < label.len() + count + 1 {
+        return at;
+    }
+    let a = put(out, at, label);
+    put_decimal(out, a, n, count, b'\n')
+}
+
+// Each function below writes a line from `at` on, with its line feed, and gives the place after it. Where there is no room,
+// nothing is written, and the place is the same.
+
+// `ans`, number, value.
+pub fn print_answer(out: &mut [u8], at: usize, number: u64, value: u32) -> usize
+    ensures next { λ r. ⌜ r ≡ after (now (out .entry)) at (answerLine number value) ⌝ }
+    ensures bytes { λ _. ⌜ now (out .exit) ≡ written (now (out .entry)) at (answerLine number value) ⌝ }
+{
+    let count = width(number);
+    if out.len() < at {
+        return at;
+    }
+    if out.len() - at < count + 14 {
+        return at;
+    }
+    let a = put(out, at, b"ans\t");
+    let b = put_decimal(out, a, number, count, b'\t');
+    put_hex(out, b, value as u64, 8, b'\n')
+}
+
+// `span`, start, end, rights. Of start and end the low 32 bits are printed.
+pub fn print_span(out: &mut [u8], at: usize, start: u64, end: u64, rights: u64) -> usize
+    ensures next { λ r. ⌜ r ≡ after (now (out .entry)) at (spanLine start end rights) ⌝ }
+    ensures bytes { λ _. ⌜ now (out .exit) ≡ written (now (out .entry)) at (spanLine start end rights) ⌝ }
+{
+    if out.len() < at {
+        return at;
+    }
+    if out.len() - at < 40 {
+        return at;
+    }
+    let a = put(out, at, b"span\t");
+    let b = put_hex(out, a, start, 8, b'\t');
+    let c = put_hex(out, b, end, 8, b'\t');
+    put_hex(out, c, rights, 16, b'\n')
+}
+
+// `guard`, n.
+pub fn print_guard(out: &mut [u8], at: usize, n: GuardNumber) -> usize
+    ensures next { λ r. ⌜ r ≡ after (now (out .entry)) at (guardLine (n .0)) ⌝ }
+    ensures bytes { λ _. ⌜ now (out .exit) ≡ written (now (out .entry)) at (guardLine (n .0)) ⌝ }
+{
+    print_labelled(out, at, b"guard\t", n.0 as u64)
+}
+
+// `end`, the count of spans.
+pub fn print_end(out: &mut [u8], at: usize, count: u64) -> usize
+    ensures next { λ r. ⌜ r ≡ after (now (out .entry)) at (endLine count) ⌝ }
+    ensures bytes { λ _. ⌜ now (out .exit) ≡ written (now (out .entry)) at (endLine count) ⌝ }
+{
+    print_labelled(out, at, b"end\t", count)
+}
+
+// `bad`, the line's number.
+pub fn print_bad(out: &mut [u8], at: usize, number: u64) -> usize
+    ensures next { λ r. ⌜ r ≡ after (now (out .entry)) at (badLine number) ⌝ }
+    ensures bytes { λ _. ⌜ now (out .exit) ≡ written (now (out .entry)) at (badLine number) ⌝ }
+{
+    print_labelled(out, at, b"bad\t", number)
+}
