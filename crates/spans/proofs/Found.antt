@@ -1,17 +1,17 @@
--- What a lookup finds: in a map the row around the offset, with f's rights there; past the window nothing; and, for the code, row after row. Assumes nothing.
+-- What a lookup finds: in a map the row around the offset, with f's rights there; past the window nothing; where it begins; and, for the code, row after row. Assumes nothing.
 use Prim.Native.Nat.{ℕ, _+_, _-_, _*_, _≤_, _<_}
 use mathlib.Core.Path.{_≡_, refl, sym, ap, _∙_}
 use mathlib.Core.Bool.{Bool, true, false, _&&_, cond}
 use mathlib.Core.List.{List, [], _∷_, _++_, append-nil}
 use mathlib.Core.Logic.{_⊎_, inl, inr, ⊎-elim}
 use native.Mathlib.Omega.{arith}
-use native.Mathlib.Nat.{add-sub-cancel-left}
+use native.Mathlib.Numerals.{add-three}
 use borrow.Author.Tests.{le-leb, lt-leb}
 use lib.Dec.{leb}
 use lib.ListN.{length, getD, take, drop, take-append-drop}
 use Rattle.spans.specs.Rows.{Rows, none, more, flat, encloses}
 use Rattle.spans.specs.Map.{IsMap, mapOf}
-use Rattle.spans.specs.Lookup.{lookupIn, Finds}
+use Rattle.spans.specs.Lookup.{lookupIn, rowPlace, Finds}
 use Rattle.spans.proofs.Order.{below-or}
 use Rattle.spans.proofs.Unique.{MapRows, map-rows}
 use Rattle.spans.proofs.Memory.{flat-more, three}
@@ -72,22 +72,50 @@ module _ {f : ℕ → ℕ} {w n : ℕ} {m : List ℕ} (I : IsMap f w n m) (x : �
   unfolding lookupIn
   lookup-past h = rw (is-the-map I .1, ← append-nil (flat (mapOf f w))) (past-rows f w (mapOf f w) [] x (map-rows f w) h)
 
+-- ---- where the row that a lookup finds begins
+
+-- the row stands there; at the end of the numbers, where none is found, nothing does
+pub at-place : (m : List ℕ) (x : ℕ) → lookupIn m x ≡ take 3 (drop (rowPlace m x) m)
+unfolding lookupIn rowPlace
+at-place [] x = refl
+at-place (s ∷ []) x = refl
+at-place (s ∷ e ∷ []) x = refl
+at-place (s ∷ e ∷ q ∷ rest) x = rw (at-place rest x) (by (encloses s e x))
+  where
+    by : (t : Bool) → cond t (s ∷ e ∷ q ∷ []) (take 3 (drop (rowPlace rest x) rest))
+        ≡ take 3 (drop (cond t 0 (rowPlace rest x + 3)) (s ∷ e ∷ q ∷ rest))
+    by true = refl
+    by false = rw add-three
+
+-- and has all its three numbers
+pub whole-row : (m : List ℕ) (x : ℕ) → rowPlace m x < length m → rowPlace m x + 3 ≤ length m
+unfolding rowPlace
+whole-row [] x h = absurd (omega arith)
+whole-row (s ∷ []) x h = absurd (omega arith)
+whole-row (s ∷ e ∷ []) x h = absurd (omega arith)
+whole-row (s ∷ e ∷ q ∷ rest) x h = by (encloses s e x) (whole-row rest x) h
+  where
+    by : (t : Bool) → (rowPlace rest x < length rest → rowPlace rest x + 3 ≤ length rest)
+        → cond t 0 (rowPlace rest x + 3) < length (s ∷ e ∷ q ∷ rest) → cond t 0 (rowPlace rest x + 3) + 3 ≤ length (s ∷ e ∷ q ∷ rest)
+    by true w l = omega arith
+    by false w l = omega (arith, w (omega arith))
+
 -- ---- row after row, as the code goes
 
-pub lookup-short : (m : List ℕ) (x : ℕ) → length m < 3 → lookupIn m x ≡ []
-unfolding lookupIn
-lookup-short [] x h = refl
-lookup-short (s ∷ []) x h = refl
-lookup-short (s ∷ e ∷ []) x h = refl
-lookup-short (s ∷ e ∷ q ∷ rest) x h = absurd (omega arith)
+pub place-short : (m : List ℕ) (x : ℕ) → length m < 3 → rowPlace m x ≡ length m
+unfolding rowPlace
+place-short [] x h = refl
+place-short (s ∷ []) x h = refl
+place-short (s ∷ e ∷ []) x h = refl
+place-short (s ∷ e ∷ q ∷ rest) x h = absurd (omega arith)
 
 module _ (m : List ℕ) (i x : ℕ) (h : i + 3 ≤ length m) where
-  one-row : lookupIn (drop i m) x ≡ cond (encloses (getD m i 0) (getD m (i + 1) 0) x) (take 3 (drop i m)) (lookupIn (drop (i + 3) m) x)
-  unfolding lookupIn
+  one-row : rowPlace (drop i m) x ≡ cond (encloses (getD m i 0) (getD m (i + 1) 0) x) 0 (rowPlace (drop (i + 3) m) x + 3)
+  unfolding rowPlace
   one-row = rw (three m i h)
 
-  pub lookup-here : getD m i 0 ≤ x → x ≤ getD m (i + 1) 0 → lookupIn (drop i m) x ≡ take (i + 3 - i) (drop i m)
-  lookup-here l u = rw add-sub-cancel-left (one-row ∙ simp (inside (getD m i 0) (getD m (i + 1) 0) x l u))
+  pub place-here : getD m i 0 ≤ x → x ≤ getD m (i + 1) 0 → rowPlace (drop i m) x ≡ 0
+  place-here l u = one-row ∙ simp (inside (getD m i 0) (getD m (i + 1) 0) x l u)
 
-  pub lookup-later : (x < getD m i 0) ⊎ (getD m (i + 1) 0 < x) → lookupIn (drop i m) x ≡ lookupIn (drop (i + 3) m) x
-  lookup-later o = one-row ∙ simp (outside (getD m i 0) (getD m (i + 1) 0) x o)
+  pub place-later : (x < getD m i 0) ⊎ (getD m (i + 1) 0 < x) → rowPlace (drop i m) x ≡ rowPlace (drop (i + 3) m) x + 3
+  place-later o = one-row ∙ simp (outside (getD m i 0) (getD m (i + 1) 0) x o)

@@ -1,7 +1,7 @@
 -- Maps over any rights function, which gives a rights word for each offset, below any window.
 --     Rows      rows, and rows as numbers in memory
 --     Map       what a map is, and the map of a rights function
---     Lookup    the row that a lookup finds
+--     Lookup    the row that a lookup finds, and where it begins
 --     Put       what one more span changes in memory
 --     Sweep     a map worked out from boundaries: for proofs and worked examples
 pub mod Rows

@@ -1,5 +1,5 @@
 -- What a lookup of an offset finds in numbers that are rows, whatever the numbers are.
-use Prim.Native.Nat.{ℕ, _≤_}
+use Prim.Native.Nat.{ℕ, _+_, _≤_}
 use mathlib.Core.Path.{_≡_}
 use mathlib.Core.Bool.{cond}
 use mathlib.Core.List.{List, [], _∷_}
@@ -11,6 +11,13 @@ lookupIn [] x = []
 lookupIn (s ∷ []) x = []
 lookupIn (s ∷ e ∷ []) x = []
 lookupIn (s ∷ e ∷ q ∷ rest) x = cond (encloses s e x) (s ∷ e ∷ q ∷ []) (lookupIn rest x)
+
+-- where among the numbers that row begins, or their count where there is none
+unfoldable pub rowPlace : List ℕ → ℕ → ℕ
+rowPlace [] x = 0
+rowPlace (s ∷ []) x = 1
+rowPlace (s ∷ e ∷ []) x = 2
+rowPlace (s ∷ e ∷ q ∷ rest) x = cond (encloses s e x) 0 (rowPlace rest x + 3)
 
 -- the numbers l are one row, which encloses x and has f's rights at x: what a lookup finds in a map of f
 pub record Finds (f : ℕ → ℕ) (x : ℕ) (l : List ℕ) : Type 0 where

@@ -1,22 +1,33 @@
 // Maps of rights in lent memory. A row, or span, is three numbers: start, end, rights.
 ghost use mathlib.Core.Path.{_≡_};
-ghost use Rattle.spans.specs.Lookup.{lookupIn};
+ghost use Rattle.spans.specs.Lookup.{lookupIn, rowPlace};
 ghost use Rattle.spans.specs.Put.{putCount, putIn};
 ghost use Rattle.spans.specs.Sweep.{nearer};
 
-// The first row whose start and end enclose the offset, as a part of the map, or an empty part.
-pub fn lookup(map: &[u64], offset: u64) -> &[u64]
-    ensures { λ r. ⌜ now r ≡ lookupIn (now (map .entry)) offset ⌝ }
+// Where in the map the first row whose start and end enclose the offset begins, or the map's length where there is none.
+pub fn row_place(map: &[u64], offset: u64) -> usize
+    ensures { λ r. ⌜ r ≡ rowPlace (now (map .entry)) offset ⌝ }
 {
     let mut i = 0;
     while 3 <= map.len() - i {
         if map[i] <= offset {
             if offset <= map[i + 1] {
-                let next = i + 3;
-                return &map[i..next];
+                return i;
             }
         }
         i += 3;
+    }
+    map.len()
+}
+
+// The first row whose start and end enclose the offset, as a part of the map, or an empty part.
+pub fn lookup(map: &[u64], offset: u64) -> &[u64]
+    ensures { λ r. ⌜ now r ≡ lookupIn (now (map .entry)) offset ⌝ }
+{
+    let i = row_place(map, offset);
+    if i < map.len() {
+        let next = i + 3;
+        return &map[i..next];
     }
     &map[..0]
 }

@@ -1,0 +1,9 @@
+//! Random states, calls and scripts.
+
+pub mod aim;
+pub mod damage;
+pub mod lent;
+pub mod lines;
+pub mod registers;
+pub mod states;
+pub mod story;

@@ -1,0 +1,175 @@
+//! How often each kind of call got each answer, and which must be met.
+
+use super::call::{Call, Outcome, NO_ROW};
+use crate::model::{Block, Direction, Event, RegisterAccess};
+use std::fmt::Write;
+
+const NUMBERS: usize = 9;
+const VALUES: usize = 3;
+
+/// A kind of call: the numbers it can get, and the values of 0 told apart.
+struct Kind {
+    name: &'static str,
+    numbers: &'static [usize],
+    values: &'static [&'static str],
+}
+
+const fn kind(
+    name: &'static str,
+    numbers: &'static [usize],
+    values: &'static [&'static str],
+) -> Kind {
+    Kind {
+        name,
+        numbers,
+        values,
+    }
+}
+
+const RULES: &[&str] = &["by default", "by base", "by subregion"];
+
+const KINDS: [Kind; 17] = [
+    kind("reset", &[0, 8], &[]),
+    kind("rifsc read", &[0, 3, 5, 8], &[]),
+    kind("rifsc write", &[0, 1, 2, 3, 5, 8], &[]),
+    kind("iac read", &[0, 1, 3, 5, 8], &[]),
+    kind("iac write", &[0, 1, 3, 5, 8], &[]),
+    kind("risaf read", &[0, 1, 3, 4, 5, 8], &[]),
+    kind("risaf write", &[0, 1, 2, 3, 4, 5, 8], &[]),
+    kind("no block", &[4, 8], &[]),
+    kind("peripheral", &[0, 1, 4, 7, 8], &[]),
+    kind("memory", &[0, 1, 4, 5, 6, 8], RULES),
+    kind("master", &[0, 1, 4, 5, 6, 8], RULES),
+    kind("line", &[0, 8], &["down", "up"]),
+    kind("map", &[0, 4, 8], &[]),
+    kind("lookup", &[0], &["row", "no row"]),
+    kind("batch", &[0, 8], &[]),
+    kind("in a batch", &[0, 1, 4, 5, 6], RULES),
+    kind(SCRIPT_LINE, &[0, 1, 2, 3, 4, 5, 6, 7], &[]),
+];
+const SCRIPT_LINE: &str = "script line";
+
+#[derive(Default)]
+pub struct Tally {
+    numbers: [[u64; NUMBERS]; KINDS.len()],
+    values: [[u64; VALUES]; KINDS.len()],
+}
+
+fn register_kind(access: &RegisterAccess) -> usize {
+    let block = match access.block {
+        Block::Rifsc => 1,
+        Block::Iac => 3,
+        Block::Risaf(_) => 5,
+    };
+    block + usize::from(access.direction == Direction::Write)
+}
+
+fn kind_of(call: &Call) -> usize {
+    match call {
+        Call::Event(Event::Reset) => 0,
+        Call::Event(Event::Register(access)) => register_kind(access),
+        Call::NoBlock { .. } => 7,
+        Call::Event(Event::Peripheral(_)) | Call::NoOperation { .. } => 8,
+        Call::Event(Event::Memory(_)) => 9,
+        Call::Event(Event::Master(_)) => 10,
+        Call::Line => 11,
+        Call::Map { .. } => 12,
+        Call::Lookup { .. } => 13,
+        Call::Batch { .. } => 14,
+    }
+}
+
+impl Tally {
+    pub fn count(&mut self, call: &Call, outcome: &Outcome) {
+        let kind = kind_of(call);
+        match call {
+            Call::Lookup { .. } => self.add(kind, u64::from(outcome.answer == NO_ROW)),
+            _ => self.add(kind, outcome.answer),
+        }
+        if let Call::Batch { accesses, .. } = call {
+            let done = if outcome.answer == 0 {
+                accesses.len()
+            } else {
+                0
+            };
+            for &answer in &outcome.lent[..done] {
+                self.add(kind + 1, answer);
+            }
+        }
+    }
+
+    /// Counts the numbers of all answers that a script printed.
+    pub fn count_script(&mut self, output: &[u8]) {
+        for line in output.split(|&byte| byte == b'\n') {
+            if let Some([digit @ b'0'..=b'8', ..]) = line.strip_prefix(b"ans\t") {
+                self.add(KINDS.len() - 1, u64::from(digit - b'0') << 32);
+            }
+        }
+    }
+
+    fn add(&mut self, kind: usize, answer: u64) {
+        let (number, value) = ((answer >> 32) as usize, answer as u32 as usize);
+        if number < NUMBERS {
+            self.numbers[kind][number] += 1;
+        }
+        if number == 0 && value < VALUES {
+            self.values[kind][value] += 1;
+        }
+    }
+
+    /// How many pairs of kind and answer there are, or those that are amiss.
+    pub fn verdict(&self) -> Result<usize, String> {
+        let (mut met, mut amiss) = (0, String::new());
+        for (kind, (numbers, values)) in KINDS.iter().zip(self.numbers.iter().zip(&self.values)) {
+            for (number, &count) in numbers.iter().enumerate() {
+                let possible = kind.numbers.contains(&number);
+                if possible != (count > 0) {
+                    let how = if possible { "never" } else { "wrongly" };
+                    writeln!(amiss, "{} got {number} {how}", kind.name).unwrap();
+                }
+                met += usize::from(possible);
+            }
+            for (value, &count) in kind.values.iter().zip(values) {
+                if count == 0 {
+                    writeln!(amiss, "{} never got 0 {value}", kind.name).unwrap();
+                }
+                met += 1;
+            }
+        }
+        if amiss.is_empty() {
+            Ok(met)
+        } else {
+            Err(amiss)
+        }
+    }
+
+    /// The counts as a table; a dash where there can be none.
+    pub fn table(&self) -> String {
+        let mut table = format!("{:<12}", "answer");
+        for number in 0..NUMBERS {
+            write!(table, "{number:>10}").unwrap();
+        }
+        table.push('\n');
+        for (kind, numbers) in KINDS.iter().zip(&self.numbers) {
+            write!(table, "{:<12}", kind.name).unwrap();
+            for (number, &count) in numbers.iter().enumerate() {
+                if count == 0 && !kind.numbers.contains(&number) {
+                    write!(table, "{:>10}", "-").unwrap();
+                } else {
+                    write!(table, "{count:>10}").unwrap();
+                }
+            }
+            table.push('\n');
+        }
+        for (kind, values) in KINDS.iter().zip(&self.values) {
+            if !kind.values.is_empty() {
+                let told = kind.values.iter().zip(values);
+                let told: Vec<String> = told
+                    .map(|(name, count)| format!("{count} {name}"))
+                    .collect();
+                writeln!(table, "{} 0: {}", kind.name, told.join(", ")).unwrap();
+            }
+        }
+        table
+    }
+}

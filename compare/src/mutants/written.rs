@@ -1,0 +1,48 @@
+//! What an event writes to.
+
+use crate::model::{Block, Device, Direction, Event, RegisterAccess, Subregion};
+
+/// The write to a register that an event is.
+pub fn write_of(event: &Event) -> Option<&RegisterAccess> {
+    match event {
+        Event::Register(access) if access.direction == Direction::Write => Some(access),
+        _ => None,
+    }
+}
+
+/// A guard, a region from 0 and a place in it.
+pub type Place = (u32, usize, u32);
+
+/// The place in a region that an event writes to.
+pub fn region_written(event: &Event) -> Option<Place> {
+    let access = write_of(event)?;
+    match access.block {
+        Block::Risaf(guard) if access.offset >= 0x40 => {
+            let region = access.offset as usize / 0x40 - 1;
+            Some((guard, region, access.offset % 0x40))
+        }
+        _ => None,
+    }
+}
+
+/// The same if it is CFGR, START or END of a subregion.
+pub fn subregion_written(event: &Event) -> Option<Place> {
+    let place = region_written(event)?;
+    matches!(place.2, 0x10..0x1C | 0x20..0x2C).then_some(place)
+}
+
+/// The subregion whose CFGR an event writes to, and the data.
+pub fn subregion_cfgr<'a>(
+    device: &'a mut Device,
+    event: &Event,
+) -> Option<(&'a mut Subregion, u32)> {
+    let data = write_of(event)?.data;
+    let (guard, region, place) = region_written(event)?;
+    let side = match place {
+        0x10 => 0,
+        0x20 => 1,
+        _ => return None,
+    };
+    let region = device.guard_mut(guard)?.regions.get_mut(region)?;
+    Some((&mut region.subregions[side], data))
+}

@@ -1,0 +1,44 @@
+-- A line by what it reads as.
+use mathlib.Core.List.{List}
+use mathlib.Core.Path.{_≡_, refl, sym, _∙_}
+use Prim.Native.Nat.{ℕ, _+_, _≤_, _<_}
+use borrow.Author.Tests.{le-leb, lt-leb}
+use lib.ListN.{length}
+use Rattle.device.specs.Applied.{appliedAnswer, appliedState}
+use Rattle.device.specs.declared.event.Event.{Event}
+use Rattle.risaf.specs.declared.guards.GuardNumber.{GuardNumber}
+use Rattle.script.specs.Command.{commandOf}
+use Rattle.script.specs.Parts.{Wrote}
+use Rattle.script.specs.Print.{badLine}
+use Rattle.script.specs.declared.command.Command.{Command}
+use Rattle.script.specs.declared.command.Command.the-variants.{Event as AnEvent, Map, Bad}
+use Rattle.response.specs.Response.{answerText, bytesAfter, mapText, most, nextOf, placeAfter, stateAfter, textOf}
+
+module _ {out out′ : List ℕ} {at p : ℕ} (m : List ℕ) (number : ℕ) {r : Command} (line : Command) (read : r ≡ line) where
+  pub event-line : {m′ : List ℕ} (e : Event) → r ≡ AnEvent e → Wrote out at (answerText (appliedAnswer e m)) out′ p
+      → m′ ≡ appliedState e m → Wrote out at (textOf line number m) out′ p × (m′ ≡ nextOf line m)
+  unfolding textOf nextOf
+  event-line e k w s = rw (sym read ∙ k) (w, s)
+
+  pub map-line : (n : GuardNumber) → r ≡ Map n → Wrote out at (mapText m (n .0)) out′ p
+      → Wrote out at (textOf line number m) out′ p × (m ≡ nextOf line m)
+  unfolding textOf nextOf
+  map-line n k w = rw (sym read ∙ k) (w, refl)
+
+  pub bad-line : r ≡ Bad → Wrote out at (badLine number) out′ p → Wrote out at (textOf line number m) out′ p × (m ≡ nextOf line m)
+  unfolding textOf nextOf
+  bad-line k w = rw (sym read ∙ k) (w, refl)
+
+-- ---- a line, with and without room
+
+module _ (line : List ℕ) (number : ℕ) (m out : List ℕ) (at : ℕ) where
+  pub no-room : length out < at + most
+      → (at ≡ placeAfter line number m out at) × ((out ≡ bytesAfter line number m out at) × (m ≡ stateAfter line m out at))
+  unfolding placeAfter bytesAfter stateAfter
+  no-room h = let t = lt-leb (at + most) (length out) h in (rw t, (rw t, rw t))
+
+  pub with-room : {out′ m′ : List ℕ} {p : ℕ} → at + most ≤ length out → Wrote out at (textOf (commandOf line) number m) out′ p
+      → m′ ≡ nextOf (commandOf line) m
+      → (p ≡ placeAfter line number m out at) × ((out′ ≡ bytesAfter line number m out at) × (m′ ≡ stateAfter line m out at))
+  unfolding placeAfter bytesAfter stateAfter
+  with-room h w s = let t = le-leb (at + most) (length out) h in (rw t (w .next), (rw t (w .bytes), rw t s))

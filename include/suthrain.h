@@ -1,0 +1,116 @@
+/*
+ * The STM32N6 resource isolation framework as a model: RIFSC, IAC and the thirteen RISAF ("guards"), in the caller's memory.
+ *
+ * Link with libcapi.a. No function allocates, keeps anything between calls, or reads a clock; each ends for every input.
+ *
+ * STATE. RIF_STATE_WORDS words that the caller owns; every content is a state. rif_reset makes it the state after reset. Words
+ *   0        RIFSC CR
+ *   1..6     SECCFGR0..5
+ *   7..12    PRIVCFGR0..5
+ *   13..18   RCFGLOCKR0..5
+ *   19       RIMC_CR
+ *   20..32   ATTR0..12
+ *   33..38   IAC IER0..5
+ *   39..44   ISR0..5
+ *   45..     136 words for each guard, in the order 1 to 9, 11 to 14: CR, IASR, IAESR, IADDR, and eleven regions of twelve words
+ *            (CFGR, START, END, CIDCFGR, subregion A's CFGR, START, END, NEST, subregion B's four), whatever the guard's own
+ *            count of regions.
+ *
+ * ANSWER. One uint64_t, 2^32 * number + value:
+ *   0  done or granted; the value is the word that a register read gives, or the rule that governed a memory access
+ *      (0 default, 1 base region, 2 subregion), and 0 otherwise
+ *   1  rights fail: flags and fault registers are set
+ *   2  the register is locked
+ *   3  the offset is no register, a write to a read-only one, a read of a write-only one
+ *   4  no such block, guard, master, peripheral or operation; CID over 7; width not 1, 2, 4
+ *   5  the offset is not a multiple of the width (registers: of 4)
+ *   6  the offset is at or past the window's size
+ *   7  a fetch at a peripheral
+ *   8  memory of the wrong length: nothing is read or written beyond the length given
+ * Where several hold, the one found first in the order 8, 4, 5, 6, 7, unknown offset (3), 1, wrong direction (3), 2 is given. A
+ * refusal but 1 changes nothing.
+ *
+ * POINTERS. A pointer comes with the count of its elements. It points to that many, aligned; where the count is 0 it may be anything.
+ * Memory that a function writes overlaps no other argument. A bool is 0 or 1.
+ */
+#ifndef SUTHRAIN_H
+#define SUTHRAIN_H
+
+#include <stdbool.h>
+#include <stddef.h>
+#include <stdint.h>
+
+#ifdef __cplusplus
+extern "C" {
+#endif
+
+#define RIF_STATE_WORDS 1813 /* the exact count of words of a state */
+#define RIF_MAP_NUMBERS 201  /* the least count of numbers lent for a map: 67 rows of three */
+
+/* The number and the value of an answer. */
+#define RIF_NUMBER(answer) ((uint32_t)((answer) >> 32))
+#define RIF_VALUE(answer) ((uint32_t)(answer))
+
+/* The blocks that have registers. */
+enum { RIF_RIFSC = 0, RIF_IAC = 1, RIF_RISAF = 2 };
+
+/* What is done at a peripheral. */
+enum { RIF_READ = 0, RIF_WRITE = 1, RIF_FETCH = 2 };
+
+/* Makes every register its reset value. */
+uint64_t rif_reset(uint32_t *state, size_t words);
+
+/* A register access. guard: of a RISAF, its number; elsewhere nothing. data: of a read nothing. */
+uint64_t rif_register(uint32_t *state, size_t words, uint32_t block, uint32_t guard, uint32_t offset, bool write, uint32_t data,
+                      bool secure, bool privileged);
+
+/* A peripheral access. */
+uint64_t rif_peripheral(uint32_t *state, size_t words, uint32_t peripheral, uint32_t operation, bool secure, bool privileged);
+
+/* A memory access through a guard, at an offset in its window. */
+uint64_t rif_memory(uint32_t *state, size_t words, uint32_t guard, uint32_t offset, uint32_t width, bool write, uint32_t cid,
+                    bool secure, bool privileged);
+
+/* A memory access by a master, with the CID, security and privilege of its ATTR. */
+uint64_t rif_master(uint32_t *state, size_t words, uint32_t master, uint32_t guard, uint32_t offset, uint32_t width, bool write);
+
+/* The interrupt line: value 1 where it is up. */
+uint64_t rif_line(const uint32_t *state, size_t words);
+
+/*
+ * The map of a guard, into lent numbers: rows of start, end, rights. *used is how many numbers of the front are the map, 0 on
+ * refusal; the rest stays as it was. Bit CID + 8 * (write + 2 * privileged + 4 * secure) of the rights is 1 where that asking is
+ * granted at every offset from start to end.
+ */
+uint64_t rif_map(const uint32_t *state, size_t words, uint32_t guard, uint64_t *numbers, size_t count, uint64_t *used);
+
+/*
+ * The first row of a map whose start and end enclose the offset: the place of its first number among the numbers, or RIF_NO_ROW.
+ * Any numbers will do; one or two left over at the end are no row.
+ */
+#define RIF_NO_ROW UINT64_MAX
+uint64_t rif_lookup(const uint64_t *numbers, size_t count, uint64_t offset);
+
+/* One memory access of a batch. */
+typedef struct {
+    uint32_t guard;
+    uint32_t offset;
+    uint32_t width;
+    uint32_t cid;
+    bool write;
+    bool privileged;
+    bool secure;
+} rif_access;
+
+/*
+ * Memory accesses one after another; answer i is that of access i. Fewer answers than accesses, or a state of the wrong length, gets 8
+ * and nothing is done. Longer answer memory keeps its rest.
+ */
+uint64_t rif_batch(uint32_t *state, size_t words, const rif_access *accesses, size_t accesses_count, uint64_t *answers,
+                   size_t answers_count);
+
+#ifdef __cplusplus
+}
+#endif
+
+#endif
