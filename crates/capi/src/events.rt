@@ -1,25 +1,62 @@
-use crate::asked::Asked;
-use crate::asked::answer;
-use crate::asked::peripheral_asked;
-use crate::asked::register_asked;
+use access::Answer;
 use access::Cid;
 use access::Kind;
+use access::Request;
+use device::Block;
 use device::Event;
 use device::MasterAccess;
 use device::MemoryAccess;
+use device::Operation;
+use device::PeripheralAccess;
+use device::RegisterAccess;
 use rifsc::MasterNumber;
+use rifsc::PeripheralNumber;
 use risaf::GuardNumber;
 ghost use mathlib.Core.Path.{_≡_};
 ghost use Rattle.access.specs.Answer.{encodedOf};
-ghost use Rattle.device.specs.Applied.{lineAnswer};
-ghost use Rattle.capi.specs.Asked.{askedAnswer, askedState, masterAsked, memoryAsked, peripheralAsked, registerAsked, resetAsked};
+ghost use Rattle.device.specs.Applied.{appliedAnswer, appliedState, lineAnswer};
+ghost use Rattle.device.specs.declared.event.Event.the-variants.{Peripheral, Register, Reset};
+ghost use Rattle.capi.specs.Events.{
+  askedAnswer,
+  askedState,
+  masterEvent,
+  memoryEvent,
+  nothing,
+  peripheralAsked,
+  registerAsked,
+};
+
+// The answer where a number stands for nothing: 4, but 8 comes first.
+fn nothing(state: &[u32]) -> u64
+    ensures { λ r. ⌜ r ≡ askedAnswer nothing (now (state .entry)) ⌝ }
+{
+    if state.len() == device::STATE_WORDS {
+        Answer::NoSuch.encoded()
+    } else {
+        Answer::WrongLength.encoded()
+    }
+}
+
+fn at_register(state: &mut [u32], a: RegisterAccess) -> u64
+    ensures answer { λ r. ⌜ r ≡ encodedOf (appliedAnswer (Register a) (now (state .entry))) ⌝ }
+    ensures next { λ _. ⌜ now (state .exit) ≡ appliedState (Register a) (now (state .entry)) ⌝ }
+{
+    device::apply_register(state, a).encoded()
+}
+
+fn at_peripheral(state: &mut [u32], a: PeripheralAccess) -> u64
+    ensures answer { λ r. ⌜ r ≡ encodedOf (appliedAnswer (Peripheral a) (now (state .entry))) ⌝ }
+    ensures next { λ _. ⌜ now (state .exit) ≡ appliedState (Peripheral a) (now (state .entry)) ⌝ }
+{
+    device::apply_peripheral(state, a).encoded()
+}
 
 #[no_mangle]
 pub extern "C" fn rif_reset(state: &mut [u32]) -> u64
-    ensures answer { λ r. ⌜ r ≡ askedAnswer resetAsked (now (state .entry)) ⌝ }
-    ensures next { λ _. ⌜ now (state .exit) ≡ askedState resetAsked (now (state .entry)) ⌝ }
+    ensures answer { λ r. ⌜ r ≡ encodedOf (appliedAnswer Reset (now (state .entry))) ⌝ }
+    ensures next { λ _. ⌜ now (state .exit) ≡ appliedState Reset (now (state .entry)) ⌝ }
 {
-    answer(state, Asked::Event(Event::Reset))
+    device::apply(state, Event::Reset).encoded()
 }
 
 #[no_mangle]
@@ -36,10 +73,37 @@ pub extern "C" fn rif_register(
     ensures answer { λ r. ⌜ r ≡ askedAnswer (registerAsked block guard offset write value secure privileged) (now (state .entry)) ⌝ }
     ensures next { λ _. ⌜ now (state .exit) ≡ askedState (registerAsked block guard offset write value secure privileged) (now (state .entry)) ⌝ }
 {
-    answer(
-        state,
-        register_asked(block, guard, offset, write, value, secure, privileged),
-    )
+    let request = Request {
+        offset,
+        write,
+        value,
+        secure,
+        privileged,
+    };
+    match block {
+        0 => at_register(
+            state,
+            RegisterAccess {
+                block: Block::Rifsc,
+                request,
+            },
+        ),
+        1 => at_register(
+            state,
+            RegisterAccess {
+                block: Block::Iac,
+                request,
+            },
+        ),
+        2 => at_register(
+            state,
+            RegisterAccess {
+                block: Block::Risaf(GuardNumber(guard)),
+                request,
+            },
+        ),
+        _ => nothing(state),
+    }
 }
 
 #[no_mangle]
@@ -53,10 +117,37 @@ pub extern "C" fn rif_peripheral(
     ensures answer { λ r. ⌜ r ≡ askedAnswer (peripheralAsked peripheral operation secure privileged) (now (state .entry)) ⌝ }
     ensures next { λ _. ⌜ now (state .exit) ≡ askedState (peripheralAsked peripheral operation secure privileged) (now (state .entry)) ⌝ }
 {
-    answer(
-        state,
-        peripheral_asked(peripheral, operation, secure, privileged),
-    )
+    let p = PeripheralNumber(peripheral);
+    match operation {
+        0 => at_peripheral(
+            state,
+            PeripheralAccess {
+                peripheral: p,
+                operation: Operation::Read,
+                secure,
+                privileged,
+            },
+        ),
+        1 => at_peripheral(
+            state,
+            PeripheralAccess {
+                peripheral: p,
+                operation: Operation::Write,
+                secure,
+                privileged,
+            },
+        ),
+        2 => at_peripheral(
+            state,
+            PeripheralAccess {
+                peripheral: p,
+                operation: Operation::Fetch,
+                secure,
+                privileged,
+            },
+        ),
+        _ => nothing(state),
+    }
 }
 
 #[no_mangle]
@@ -70,8 +161,8 @@ pub extern "C" fn rif_memory(
     secure: bool,
     privileged: bool,
 ) -> u64
-    ensures answer { λ r. ⌜ r ≡ askedAnswer (memoryAsked guard offset width write cid secure privileged) (now (state .entry)) ⌝ }
-    ensures next { λ _. ⌜ now (state .exit) ≡ askedState (memoryAsked guard offset width write cid secure privileged) (now (state .entry)) ⌝ }
+    ensures answer { λ r. ⌜ r ≡ encodedOf (appliedAnswer (memoryEvent guard offset width write cid secure privileged) (now (state .entry))) ⌝ }
+    ensures next { λ _. ⌜ now (state .exit) ≡ appliedState (memoryEvent guard offset width write cid secure privileged) (now (state .entry)) ⌝ }
 {
     let kind = Kind {
         cid: Cid(cid),
@@ -79,16 +170,13 @@ pub extern "C" fn rif_memory(
         privileged,
         secure,
     };
-    let guard = GuardNumber(guard);
-    answer(
-        state,
-        Asked::Event(Event::Memory(MemoryAccess {
-            guard,
-            offset,
-            width,
-            kind,
-        })),
-    )
+    let access = MemoryAccess {
+        guard: GuardNumber(guard),
+        offset,
+        width,
+        kind,
+    };
+    device::apply_memory(state, access).encoded()
 }
 
 #[no_mangle]
@@ -100,23 +188,20 @@ pub extern "C" fn rif_master(
     width: u32,
     write: bool,
 ) -> u64
-    ensures answer { λ r. ⌜ r ≡ askedAnswer (masterAsked master guard offset width write) (now (state .entry)) ⌝ }
-    ensures next { λ _. ⌜ now (state .exit) ≡ askedState (masterAsked master guard offset width write) (now (state .entry)) ⌝ }
+    ensures answer { λ r. ⌜ r ≡ encodedOf (appliedAnswer (masterEvent master guard offset width write) (now (state .entry))) ⌝ }
+    ensures next { λ _. ⌜ now (state .exit) ≡ appliedState (masterEvent master guard offset width write) (now (state .entry)) ⌝ }
 {
-    let master = MasterNumber(master);
-    let guard = GuardNumber(guard);
-    answer(
-        state,
-        Asked::Event(Event::Master(MasterAccess {
-            master,
-            guard,
-            offset,
-            width,
-            write,
-        })),
-    )
+    let access = MasterAccess {
+        master: MasterNumber(master),
+        guard: GuardNumber(guard),
+        offset,
+        width,
+        write,
+    };
+    device::apply_master(state, access).encoded()
 }
 
+// The interrupt line.
 #[no_mangle]
 pub extern "C" fn rif_line(state: &[u32]) -> u64
     ensures { λ r. ⌜ r ≡ encodedOf (lineAnswer (now (state .entry))) ⌝ }

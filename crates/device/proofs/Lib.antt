@@ -1,4 +1,6 @@
 pub mod Accesses
+pub mod BatchApplied
+pub mod BatchTurns
 pub mod Faults
 pub mod GuardSteps
 pub mod GuardStores
@@ -18,3 +20,5 @@ pub mod RifscStores
 pub mod StateLayout
 pub mod States
 pub mod Verdicts
+pub mod Walks
+pub mod Applies

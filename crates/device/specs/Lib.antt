@@ -1,4 +1,5 @@
 pub mod Applied
+pub mod Batch
 pub mod InPlace
 pub mod Locks
 pub mod Layout

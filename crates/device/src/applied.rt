@@ -22,7 +22,7 @@ ghost use Rattle.device.specs.declared.event.Event.the-variants.{Master}
 // How many words the state has.
 pub const STATE_WORDS: usize = 1813;
 
-fn access_register(state: &mut [u32], a: RegisterAccess) -> Answer
+pub(crate) fn access_register(state: &mut [u32], a: RegisterAccess) -> Answer
     requires { ⌜ length (now state) ≡ stateWords ⌝ }
     ensures answer { λ r. ⌜ r ≡ registerStep (a .block) (a .request) (stateOf (now (state .entry))) .answer ⌝ }
     ensures next { λ _. ⌜ stateOf (now (state .exit)) ≡ registerStep (a .block) (a .request) (stateOf (now (state .entry))) .next ⌝ }
@@ -37,7 +37,7 @@ fn access_register(state: &mut [u32], a: RegisterAccess) -> Answer
 }
 
 // A memory access by a master: of the kind that its ATTR says.
-fn access_master(state: &mut [u32], a: MasterAccess) -> Answer
+pub(crate) fn access_master(state: &mut [u32], a: MasterAccess) -> Answer
     requires { ⌜ length (now state) ≡ stateWords ⌝ }
     ensures answer { λ r. ⌜ r ≡ step (Master a) (stateOf (now (state .entry))) .answer ⌝ }
     ensures next { λ _. ⌜ stateOf (now (state .exit)) ≡ step (Master a) (stateOf (now (state .entry))) .next ⌝ }

@@ -30,6 +30,7 @@ pub struct PeripheralAccess {
     pub privileged: bool,
 }
 
+#[repr(C)]
 pub struct MemoryAccess {
     pub guard: GuardNumber,
     pub offset: u32,

@@ -1,21 +1,22 @@
 -- A memory access by the code's calls.
-use mathlib.Core.Bool.{Bool, false, and-false}
+use mathlib.Core.Bool.{Bool, true, false, _&&_, _||_, and-false, or-false}
 use mathlib.Core.List.{List}
-use mathlib.Core.Path.{_≡_, sym, ap, _∙_}
-use Prim.Native.Nat.{ℕ, _*_, _≤_, _<_}
+use mathlib.Core.Path.{_≡_, refl, sym, ap, _∙_}
+use Prim.Native.Nat.{ℕ, _*_, _%_, _≤_, _<_}
 use native.Mathlib.Decide.{decLt}
 use native.Mathlib.Omega.{arith}
-use lib.Dec.{leb}
+use lib.Dec.{eqb, leb, ltb}
 use lib.ListN.{length}
-use borrow.Author.Tests.{lt-leb}
+use borrow.Author.Tests.{eq-eqb, ne-eqb, lt-leb, eqb-true}
 use Rattle.access.specs.Answer.{numberOf, left}
 use Rattle.access.specs.Checks.{answered}
 use Rattle.access.specs.declared.answer.Answer.{Answer}
 use Rattle.access.specs.declared.answer.Answer.the-variants.{NoSuch}
+use Rattle.access.specs.declared.checks.Checks.{Checks}
 use Rattle.access.specs.declared.kind.Kind.{Kind}
 use Rattle.risaf.specs.Guards.{isGuard, shapeOf}
 use Rattle.risaf.specs.Lent.{enough, decidedIn}
-use Rattle.risaf.specs.Memory.{checksOf, answerOf, faulted, accessed}
+use Rattle.risaf.specs.Memory.{isWidth, checksOf, answerOf, faulted, accessed}
 use Rattle.risaf.specs.Rules.{decided}
 use Rattle.risaf.specs.declared.contents.Guard.{Guard}
 use Rattle.risaf.specs.declared.guards.Shape.{Shape}
@@ -26,9 +27,49 @@ use Rattle.risaf.proofs.Shapes.{regions-most}
 
 -- ---- where the code's verdict is not the rules', the answer does not look at it
 
-pub answer-zero : (there : Bool) (shape : Shape) (o : ℕ) (k : Kind) (v : Verdict) → NoSuch ≡ answerOf there shape o 0 k v
+pub other-width : (o width : ℕ) → (width ≡ 2 → ⊥) → (width ≡ 4 → ⊥) → isWidth width ≡ true → true ≡ eqb (o % width) 0
+other-width o width two four h =
+    let one : width ≡ 1 = eqb-true width 1 (or-no (or-no h (ne-eqb width 4 four)) (ne-eqb width 2 two)) in
+    rw one (sym (eq-eqb (o % 1) 0 (omega arith)))
+  where
+    or-no : {a b : Bool} → (a || b) ≡ true → b ≡ false → a ≡ true
+    or-no {a} {b} p q = sym (or-false a) ∙ sym (ap (λ (x : Bool). a || x) q) ∙ p
+
+-- of a width that there is not, the alignment is not looked at
+pub answer-aligned : (there : Bool) (shape : Shape) (o width : ℕ) (k : Kind) (v : Verdict) {t : Bool} {a : Answer}
+    → (isWidth width ≡ true → t ≡ eqb (o % width) 0)
+    → a
+    ≡ answered
+    (record {
+      present = there && leb (k .cid .0) 7 && isWidth width;
+      aligned = t;
+      inside = ltb o (shape .window);
+      fetchless = true;
+      known = true;
+      allowed = v .granted;
+      direction = true;
+      unlocked = true;
+    })
+    (v .rule)
+    → a ≡ answerOf there shape o width k v
 unfolding answerOf checksOf answered
-answer-zero there shape o k v = simp and-false
+answer-aligned there shape o width k v {t} {a} h e = e ∙ go (isWidth width) refl
+  where
+    checks : Bool → Bool → Checks
+    checks w u =
+        record {
+          present = there && leb (k .cid .0) 7 && w;
+          aligned = u;
+          inside = ltb o (shape .window);
+          fetchless = true;
+          known = true;
+          allowed = v .granted;
+          direction = true;
+          unlocked = true;
+        }
+    go : (w : Bool) → isWidth width ≡ w → answered (checks w t) (v .rule) ≡ answered (checks w (eqb (o % width) 0)) (v .rule)
+    go true q = rw (h q)
+    go false q = simp and-false
 
 pub answer-over : (there : Bool) (shape : Shape) (o width : ℕ) (k : Kind) (v : Verdict) → 7 < k .cid .0
     → answerOf there shape o width k v ≡ NoSuch

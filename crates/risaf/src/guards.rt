@@ -2,6 +2,7 @@ ghost use mathlib.Core.Path.{_≡_};
 ghost use Rattle.risaf.specs.Guards.{isGuard, shapeOf};
 
 // A guard's number; never a compartment's or a peripheral's number.
+#[repr(C)]
 pub struct GuardNumber(pub u32);
 
 // What the guards differ in: the count of base regions, and the size of the window.

@@ -7,9 +7,23 @@ use crate::rules::decide;
 use access::Answer;
 use access::Checks;
 use access::Kind;
+ghost use mathlib.Core.Bool.{true};
 ghost use mathlib.Core.Path.{_≡_};
+ghost use Prim.Native.Nat.{_%_};
+ghost use lib.Dec.{eqb};
 ghost use Rattle.risaf.specs.Guards.{isGuard, shapeOf};
-ghost use Rattle.risaf.specs.Memory.{accessed, answerOf, faulted, iaddrFaulted, iaesrFaulted, iasrFaulted};
+ghost use Rattle.risaf.specs.Memory.{accessed, answerOf, faulted, iaddrFaulted, iaesrFaulted, iasrFaulted, isWidth};
+
+// Whether the offset is a multiple of a width that there is. Of another width nobody asks: it is refused first.
+fn aligned(o: u32, width: u32) -> bool
+    ensures { λ r. ⌜ (isWidth width ≡ true → r ≡ eqb (o % width) 0) ⌝ }
+{
+    match width {
+        2 => o % 2 == 0,
+        4 => o % 4 == 0,
+        _ => true,
+    }
+}
 
 // The answer to a memory access of a kind: there says whether the guard, and the master, are ones there are.
 pub fn memory_answer(
@@ -22,12 +36,9 @@ pub fn memory_answer(
 ) -> Answer
     ensures { λ r. ⌜ r ≡ answerOf there shape o width k verdict ⌝ }
 {
-    if width == 0 {
-        return Answer::NoSuch;
-    }
     let checks = Checks {
         present: there & (k.cid.0 <= 7) & ((width == 1) | (width == 2) | (width == 4)),
-        aligned: o % width == 0,
+        aligned: aligned(o, width),
         inside: (o as u64) < shape.window,
         fetchless: true,
         known: true,

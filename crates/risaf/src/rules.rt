@@ -29,7 +29,10 @@ fn covers(w: &[u32], p: usize, o: u32) -> bool
     requires { ⌜ p + 2 < length (now w) ⌝ }
     ensures { λ r. ⌜ r ≡ covers (now (w .entry)) p o ⌝ }
 {
-    ((w[p] >> 0) % 2 == 1) & ((w[p + 1] <= o) & (o <= w[p + 2]))
+    if (w[p] >> 0) % 2 != 1 {
+        return false;
+    }
+    (w[p + 1] <= o) & (o <= w[p + 2])
 }
 
 // Rule 1 at a base region with these words.

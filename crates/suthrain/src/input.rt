@@ -4,7 +4,7 @@ use crate::output::front;
 use crate::output::obey;
 use libc::STDIN_FILENO;
 use std::num::wrapping_add_u64;
-ghost use Prim.Native.Nat.{_≤_};
+ghost use Prim.Native.Nat.{_+_, _≤_};
 ghost use lib.ListN.{length};
 
 // What is kept from block to block: how many bytes of an unfinished line, its number, and whether more can be read and written.
@@ -30,8 +30,8 @@ fn keep(line: &mut [u8], held: usize, bytes: &[u8]) -> usize {
     n
 }
 
-// Where the text's next line feed is, from `from` on, or the text's end.
-fn line_end(text: &[u8], from: usize) -> usize
+// Where the text's next line feed is, from `from` on, or the text's end; looked for byte by byte.
+fn line_end_near(text: &[u8], from: usize) -> usize
     requires { ⌜ from ≤ length (now text) ⌝ }
     ensures { λ r. ⌜ (from ≤ r) × (r ≤ length (now (text .entry))) ⌝ }
 {
@@ -43,6 +43,35 @@ fn line_end(text: &[u8], from: usize) -> usize
         i += 1;
     }
     i
+}
+
+// Whether some of the eight bytes from i on is a line feed.
+fn has_feed(text: &[u8], i: usize) -> bool
+    requires { ⌜ i + 8 ≤ length (now text) ⌝ }
+{
+    (text[i] == b'\n')
+        | (text[i + 1] == b'\n')
+        | (text[i + 2] == b'\n')
+        | (text[i + 3] == b'\n')
+        | (text[i + 4] == b'\n')
+        | (text[i + 5] == b'\n')
+        | (text[i + 6] == b'\n')
+        | (text[i + 7] == b'\n')
+}
+
+// The same, eight bytes at a time.
+fn line_end(text: &[u8], from: usize) -> usize
+    requires { ⌜ from ≤ length (now text) ⌝ }
+    ensures { λ r. ⌜ (from ≤ r) × (r ≤ length (now (text .entry))) ⌝ }
+{
+    let mut i = from;
+    while 8 <= text.len() - i {
+        if has_feed(text, i) {
+            return line_end_near(text, i);
+        }
+        i += 8;
+    }
+    line_end_near(text, i)
 }
 
 // Obeys the lines of a text that end in it, from `start` on; the first has that number. The rest is an unfinished line, which is kept.

@@ -1,23 +1,17 @@
-use mathlib.Core.Path.{refl, _∙_, ap, sym}
+-- `device::applied::apply` meets its contract: the event's step, on a state that has its length.
 use borrow.Author.Needs.{needs}
-use borrow.Author.Tests.{eq-eqb, ne-eqb}
-use Rattle.device.specs.Applied.{appliedAnswer, appliedState}
-use Rattle.device.specs.Layout.{layout}
-use Rattle.device.proofs.StateLayout.{layout-of}
+use Rattle.device.proofs.Applies.{other-length, own-length}
 use Rattle.device.proofs.applied.apply.Statement.{statement}
 use Rattle.device.proofs.applied.apply.Tie as tie
 
 returns : tie.Need-returns
-unfolding appliedAnswer appliedState
-returns c = simp (ne-eqb _ _ (c .if1 .taken)) (refl, refl)
+returns c = let s = c .before .before .args in other-length (s .event) (s .state .now) (c .if1 .taken)
 
 returns-2 : tie.Need-returns-2
-unfolding appliedAnswer appliedState
 returns-2 c =
-    let f = c .before .before .before .before in
-    let s = f .before .before in
+    let s = c .before .before .before .before .before .before .args in
     let u = c .before .before .stepped in
-    simp (eq-eqb _ _ (f .if1 .left)) (u .ensures .0, sym (layout-of _ (u .kept .0 ∙ f .if1 .left)) ∙ ap layout (u .ensures .1))
+    own-length (s .event) (s .state .now) (c .before .before .before .before .if1 .left) (u .kept .0) (u .ensures .0) (u .ensures .1)
 
 pub apply-spec : {M : Type 1} → statement M
 apply-spec =

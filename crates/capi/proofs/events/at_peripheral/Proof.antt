@@ -1,0 +1,16 @@
+-- `capi::events::at_peripheral` meets its contract: the answer, encoded.
+use borrow.Author.Needs.{needs}
+use mathlib.Core.Path.{_∙_, ap}
+use Rattle.access.specs.Answer.{encodedOf}
+use Rattle.capi.proofs.events.at_peripheral.Statement.{statement}
+use Rattle.capi.proofs.events.at_peripheral.Tie as tie
+
+returns : tie.Need-returns
+returns c =
+    let u = c .before .before .before .apply-peripheral in
+    (c .encoded .ensures ∙ ap encodedOf (u .ensures .0), u .ensures .1)
+
+pub at-peripheral-spec : {M : Type 1} → statement M
+at-peripheral-spec =
+    tie.close
+    (tie.spec (λ c κs. search needs) (λ c κs. search needs) (λ c. search needs) returns)

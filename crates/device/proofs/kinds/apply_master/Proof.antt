@@ -1,0 +1,20 @@
+-- `device::kinds::apply_master` meets its contract: the step of its kind, on a state that has its length.
+use borrow.Author.Needs.{needs}
+use Rattle.device.specs.declared.event.Event.the-variants.{Master}
+use Rattle.device.proofs.Applies.{other-length, own-length}
+use Rattle.device.proofs.kinds.apply_master.Statement.{statement}
+use Rattle.device.proofs.kinds.apply_master.Tie as tie
+
+returns : tie.Need-returns
+returns c = let s = c .before .before .args in other-length (Master (s .a)) (s .state .now) (c .if1 .taken)
+
+returns-2 : tie.Need-returns-2
+returns-2 c =
+    let s = c .before .before .before .before .before .before .args in
+    let u = c .before .before .access-master in
+    own-length (Master (s .a)) (s .state .now) (c .before .before .before .before .if1 .left) (u .kept .0) (u .ensures .0) (u .ensures .1)
+
+pub apply-master-spec : {M : Type 1} → statement M
+apply-master-spec =
+    tie.close
+    (tie.spec returns (λ c κs. search needs) (λ c. search needs) returns-2)
