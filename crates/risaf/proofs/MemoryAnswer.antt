@@ -67,6 +67,7 @@ answer-aligned there shape o width k v {t} {a} h e = e ∙ go (isWidth width) re
           direction = true;
           unlocked = true;
         }
+
     go : (w : Bool) → isWidth width ≡ w → answered (checks w t) (v .rule) ≡ answered (checks w (eqb (o % width) 0)) (v .rule)
     go true q = rw (h q)
     go false q = simp and-false

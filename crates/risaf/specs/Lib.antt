@@ -8,4 +8,5 @@ pub mod Rules
 pub mod Rights
 pub mod Lent
 pub mod Tally
+pub mod Masks
 pub mod Memory

@@ -1,12 +1,10 @@
--- What the code of the rules and rights adds up. The meaning is that of Rules.antt and Rights.antt.
+-- What the code of the rules adds up. The meaning is that of Rules.antt.
 use mathlib.Core.Bool.{Bool, true, not, _&&_, _||_, cond, Bool·beq}
 use mathlib.Core.List.{List}
 use Prim.Native.Nat.{ℕ, _+_}
-use Rattle.words.specs.Bit.{bit, word}
+use Rattle.words.specs.Bit.{bit}
 use Rattle.access.specs.Fold.{any}
-use Rattle.access.specs.Kind.{kindOf}
 use Rattle.access.specs.declared.kind.Kind.{Kind}
-use Rattle.risaf.specs.Lent.{decidedIn}
 use Rattle.risaf.specs.Registers.{base, sub}
 use Rattle.risaf.specs.Rules.{covers, counts, debugger, direction, grants0, grants1, baseGrants, workingSec, workingPriv, opens, anySub, allSub}
 use Rattle.risaf.specs.declared.rules.Tally.{Tally}
@@ -71,7 +69,3 @@ withBase grants t =
 unfoldable pub added : List ℕ → ℕ → ℕ → Kind → Tally → Tally
 added w x o k t =
     cond (covers w (base x) o) (subAdded w x 1 o k (subAdded w x 0 o k (withBase (baseGrants w k x) t))) t
-
--- the rights of the first b kinds of asking
-unfoldable pub rightsBelow : List ℕ → ℕ → ℕ → ℕ → ℕ
-rightsBelow w n o b = word b (λ i. decidedIn w n o (kindOf i) .granted)

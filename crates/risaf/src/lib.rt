@@ -2,6 +2,7 @@
 pub mod contents;
 mod forms;
 pub mod guards;
+mod masks;
 pub mod memory;
 pub mod places;
 pub mod port;

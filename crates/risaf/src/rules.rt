@@ -25,7 +25,7 @@ struct Tally {
 }
 
 // The region or subregion at p is enabled and covers the offset.
-fn covers(w: &[u32], p: usize, o: u32) -> bool
+pub(crate) fn covers(w: &[u32], p: usize, o: u32) -> bool
     requires { ⌜ p + 2 < length (now w) ⌝ }
     ensures { λ r. ⌜ r ≡ covers (now (w .entry)) p o ⌝ }
 {

@@ -1,38 +1,33 @@
-use mathlib.Core.Path.{_≡_, ap, _∙_}
-use Prim.Native.Nat.{_≤_, _-_}
-use native.Mathlib.Omega.{arith}
+use mathlib.Core.Path.{ap, refl, _∙_}
 use borrow.Author.Needs.{needs}
-use Rattle.risaf.specs.Tally.{rightsBelow}
-use Rattle.risaf.proofs.RightsBits.{rights-more, rights-all}
+use borrow.Author.Tests.{lt-leb, le-leb}
+use Rattle.risaf.specs.Lent.{rightsIn}
+use Rattle.risaf.specs.Masks.{rightsFrom}
+use Rattle.risaf.specs.declared.masks.Masks.{Masks}
+use Rattle.risaf.proofs.RightsBytes.{rights-join, rights-masks}
 use Rattle.risaf.proofs.rights.rights_at.Statement.{statement}
 use Rattle.risaf.proofs.rights.rights_at.Tie as tie
 
-abbrev Inv-loop : tie.InvT-loop
-Inv-loop w n o rights₀ b₀ rights b = (b ≤ 64) × (rights ≡ rightsBelow w n o b)
+returns : tie.Need-returns
+unfolding rightsIn
+returns c = simp (lt-leb _ _ (c .if1 .taken))
 
-abbrev μ-loop : tie.MeasureT-loop
-μ-loop w n o rights₀ b₀ rights b = 64 - b
+returns-2 : tie.Need-returns-2
+unfolding rightsIn
+returns-2 c = simp (le-leb _ _ (c .before .if1 .left), lt-leb _ _ (c .if2 .taken))
 
-loop-holds : tie.Need-loop-holds Inv-loop μ-loop
-unfolding rightsBelow
-loop-holds c = search needs
-
-loop-again : tie.Need-loop-again Inv-loop μ-loop
-loop-again c =
-    let l = c .before .before .before .before in (
-      search needs,
-      rights-more _ _ _ (l .loop .b) (search needs) (l .loop .inv .1) (c .before .before .kind-of .ensures)
-          (c .before .decide .ensures) (c .with-bit .ensures),
-    )
-
-returns : tie.Need-returns Inv-loop μ-loop
-returns c =
-    let a = c .before .before .before .args in
-    let e : c .before .loop .b ≡ 64 = omega arith in
-    c .before .loop .inv .1 ∙ ap (rightsBelow (a .w .now) (a .n) (a .o)) e ∙ rights-all _ _ _
+returns-3 : tie.Need-returns-3
+unfolding rightsIn
+returns-3 c =
+    let g = c .before .before in
+    let b = g .before in
+    simp (le-leb _ _ (b .before .if1 .left), le-leb _ _ (b .if2 .left))
+    (rights-join (g .gathered .result) 0 32 32 32 refl (c .before .half .ensures) (c .half2 .ensures)
+    ∙ ap (λ (m : Masks). rightsFrom m 0 64) (g .gathered .ensures)
+    ∙ rights-masks _ _ _)
 
 pub rights-at-spec : {M : Type 1} → statement M
 rights-at-spec =
     tie.close
-    (tie.spec Inv-loop μ-loop loop-holds (λ c κs. search needs) (λ c κs. search needs) (λ c κs. search needs)
-    (λ c. search needs) (λ c. search needs) loop-again returns)
+    (tie.spec returns (λ c. search needs) returns-2 (λ c κs. search needs) (λ c κs. search needs) (λ c. search needs)
+    (λ c. search needs) (λ c κs. search needs) (λ c. search needs) (λ c. search needs) returns-3)
