@@ -1,7 +1,6 @@
 use crate::Answer;
-
 ghost use mathlib.Core.Path.{_≡_};
-ghost use Rattle.access.specs.Checks.{answered, unless};
+ghost use Rattle.access.specs.Checks.{answered};
 
 // What is tested of an event once the lent memory has its length. A test that a kind of event does not have is passed.
 pub struct Checks {
@@ -23,26 +22,35 @@ pub struct Checks {
     pub unlocked: bool,
 }
 
-// The refusal unless the test is passed.
-fn unless(passed: bool, refusal: Answer, rest: Answer) -> Answer
-    ensures { λ r. ⌜ r ≡ unless passed refusal rest ⌝ }
-{
-    if passed { rest } else { refusal }
-}
-
 impl Checks {
     // The answer of the first test that fails, or done with the value.
     pub fn answer(self, value: u32) -> Answer
         ensures { λ r. ⌜ r ≡ answered self value ⌝ }
     {
-        unless(self.present, Answer::NoSuch,
-        unless(self.aligned, Answer::Misaligned,
-        unless(self.inside, Answer::Outside,
-        unless(self.fetchless, Answer::Fetch,
-        unless(self.known, Answer::NoRegister,
-        unless(self.allowed, Answer::Refused,
-        unless(self.direction, Answer::NoRegister,
-        unless(self.unlocked, Answer::Locked,
-        Answer::Done(value)))))))))
+        if !self.present {
+            return Answer::NoSuch;
+        }
+        if !self.aligned {
+            return Answer::Misaligned;
+        }
+        if !self.inside {
+            return Answer::Outside;
+        }
+        if !self.fetchless {
+            return Answer::Fetch;
+        }
+        if !self.known {
+            return Answer::NoRegister;
+        }
+        if !self.allowed {
+            return Answer::Refused;
+        }
+        if !self.direction {
+            return Answer::NoRegister;
+        }
+        if !self.unlocked {
+            return Answer::Locked;
+        }
+        Answer::Done(value)
     }
 }

@@ -6,5 +6,6 @@ pub mod request;
 
 pub use answer::Answer;
 pub use checks::Checks;
-pub use kind::{Cid, Kind};
+pub use kind::Cid;
+pub use kind::Kind;
 pub use request::Request;

@@ -2,13 +2,15 @@
 use mathlib.Core.Bool.{Bool, true, false, not, _&&_, _||_, cond, and-true, and-assoc, or-false, or-true, or-assoc}
 use mathlib.Core.List.{List}
 use mathlib.Core.Path.{_≡_, refl, sym, ap, _∙_}
-use Prim.Native.Nat.{ℕ, suc, _+_}
+use Prim.Native.Nat.{ℕ, zero, suc, _+_, _≤_, _<_}
+use native.Mathlib.Decide.{decLt}
+use native.Mathlib.Omega.{arith}
 use native.Mathlib.Numerals.{add-one}
 use borrow.Author.Tests.{not-true, not-false}
 use Rattle.access.specs.declared.kind.Kind.{Kind}
 use Rattle.risaf.specs.Registers.{base, sub}
 use Rattle.risaf.specs.Rules.{covers, baseGrants, workingSec, workingPriv, opens, decided}
-use Rattle.risaf.specs.Tally.{tally, withSub, withBase, subAdded, added, judged}
+use Rattle.risaf.specs.Tally.{tally, withSub, withBase, subAdded, added, judged, Passed}
 use Rattle.risaf.specs.declared.rules.Tally.{Tally}
 
 -- c says whether the base region covers, f whether it grants; a and b whether its subregions cover
@@ -51,6 +53,37 @@ tally-suc w n o k =
     sym
     (step (covers w (base n) o) (covers w (sub n 0) o) (covers w (sub n 1) o) (baseGrants w k n) (workingSec w n 0)
     (workingSec w n 1) (workingPriv w n 0) (workingPriv w n 1) (opens w k n 0) (opens w k n 1) (tally w n o k))
+
+-- ---- base regions that are passed by
+
+module _ (w : List ℕ) (o from : ℕ) where
+  pub pass-none : Passed w o from from
+  pass-none y h l = absurd (omega arith)
+
+  pub pass-more : (x : ℕ) {c : Bool} → Passed w o from x → c ≡ covers w (base x) o → c ≡ false → Passed w o from (x + 1)
+  pass-more x {c} before e out y h l = go (decLt y x)
+    where
+      go : Dec (y < x) → covers w (base y) o ≡ false
+      go (yes q) = before y h q
+      go (no q) =
+          let same : y ≡ x = omega arith in
+          rw same (sym e ∙ out)
+
+  not-added : (k : Kind) (r : ℕ) → covers w (base r) o ≡ false → added w r o k (tally w r o k) ≡ tally w r o k
+  unfolding added
+  not-added k r e = rw e
+
+  -- they say nothing
+  pub tally-pass : (k : Kind) (r : ℕ) → from ≤ r → Passed w o from r → tally w r o k ≡ tally w from o k
+  tally-pass k zero h passed = let e : from ≡ 0 = omega arith in rw e
+  tally-pass k (suc r) h passed =
+      go (decLt r from) (λ l. tally-pass k r l (λ y a b. passed y a (omega arith)))
+    where
+      go : Dec (r < from) → (from ≤ r → tally w r o k ≡ tally w from o k) → tally w (suc r) o k ≡ tally w from o k
+      go (yes q) before = let e : from ≡ suc r = omega arith in rw e
+      go (no q) before =
+          let l : from ≤ r = omega arith in
+          tally-suc w r o k ∙ not-added k r (passed r l (omega arith)) ∙ before l
 
 -- one base region more, by the code's call
 pub tally-more : (w : List ℕ) (n o : ℕ) (k : Kind) {t u : Tally} → t ≡ tally w n o k → u ≡ added w n o k t

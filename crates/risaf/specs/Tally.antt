@@ -1,7 +1,8 @@
 -- What the code of the rules adds up. The meaning is that of Rules.antt.
-use mathlib.Core.Bool.{Bool, true, not, _&&_, _||_, cond, Bool·beq}
+use mathlib.Core.Bool.{Bool, true, false, not, _&&_, _||_, cond, Bool·beq}
 use mathlib.Core.List.{List}
-use Prim.Native.Nat.{ℕ, _+_}
+use mathlib.Core.Path.{_≡_}
+use Prim.Native.Nat.{ℕ, _+_, _≤_, _<_}
 use Rattle.words.specs.Bit.{bit}
 use Rattle.access.specs.Fold.{any}
 use Rattle.access.specs.declared.kind.Kind.{Kind}
@@ -69,3 +70,7 @@ withBase grants t =
 unfoldable pub added : List ℕ → ℕ → ℕ → Kind → Tally → Tally
 added w x o k t =
     cond (covers w (base x) o) (subAdded w x 1 o k (subAdded w x 0 o k (withBase (baseGrants w k x) t))) t
+
+-- no base region from `from` up to r, r not included, covers
+abbrev pub Passed : List ℕ → ℕ → ℕ → ℕ → Type 0
+Passed w o from r = (y : ℕ) → from ≤ y → y < r → covers w (base y) o ≡ false

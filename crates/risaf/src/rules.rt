@@ -4,7 +4,7 @@ ghost use Prim.Native.Nat.{_+_, _*_, _≤_, _<_};
 ghost use lib.ListN.{length};
 ghost use Rattle.risaf.specs.Lent.{decidedIn};
 ghost use Rattle.risaf.specs.Rules.{covers};
-ghost use Rattle.risaf.specs.Tally.{added, baseAllows, judged, subAdded, tally};
+ghost use Rattle.risaf.specs.Tally.{Passed, added, baseAllows, judged, subAdded, tally};
 
 // The rule that governs an offset (0 default, 1 base region, 2 subregion), and whether it grants.
 pub struct Verdict {
@@ -95,6 +95,21 @@ fn added(w: &[u32], x: usize, o: u32, k: Kind, t: Tally) -> Tally
     sub_added(w, x, 1, o, k, sub_added(w, x, 0, o, k, based))
 }
 
+// The next base region from `from` on that covers the offset, or n.
+fn next_covering(w: &[u32], from: usize, n: usize, o: u32) -> usize
+    requires { ⌜ (from ≤ n) × (12 * n ≤ length (now w)) ⌝ }
+    ensures { λ r. ⌜ (from ≤ r) × (r ≤ n) × Passed (now (w .entry)) o from r ⌝ }
+{
+    let mut x = from;
+    while x < n {
+        if covers(w, 12 * x, o) {
+            return x;
+        }
+        x += 1;
+    }
+    x
+}
+
 // What the first n base regions say.
 fn tallied(w: &[u32], n: usize, o: u32, k: Kind) -> Tally
     requires { ⌜ (12 * n ≤ length (now w)) × (k .cid .0 ≤ 7) ⌝ }
@@ -108,8 +123,10 @@ fn tallied(w: &[u32], n: usize, o: u32, k: Kind) -> Tally
         privileged: true,
         opened: false,
     };
-    for x in 0..n {
+    let mut x = next_covering(w, 0, n, o);
+    while x < n {
         t = added(w, x, o, k, t);
+        x = next_covering(w, x + 1, n, o);
     }
     t
 }
