@@ -9,7 +9,7 @@ use compare::harness::modelled::{Modelled, Rules, MODEL};
 use compare::harness::names::word_name;
 use compare::harness::program::Program;
 use compare::harness::random::Random;
-use compare::harness::shrink::{delete, zero, zero_bits};
+use compare::harness::shrink::{blank, delete, front, zero_bits};
 use compare::harness::tally::Tally;
 use compare::harness::words::{device_of, reset_words, store, STATE_WORDS};
 use compare::mutants::{all, Change};
@@ -138,8 +138,9 @@ fn cases_become_small() {
 fn shrinking_finds_what_matters() {
     let needed = |items: &[u32]| items.contains(&37) && items.contains(&4);
     assert_eq!(delete((0..100).collect(), needed), [4, 37]);
+    assert_eq!(front((0..100).collect(), needed).len(), 38);
     let bits = |words: &[u32]| words[7] & 0x10 != 0 && words[9] & 0x8000_0000 != 0;
-    let words = zero_bits(zero(vec![u32::MAX; 20], bits), bits);
+    let words = zero_bits(blank(vec![u32::MAX; 20], 0, bits), bits);
     assert_eq!((words[7], words[9]), (0x10, 0x8000_0000));
     assert_eq!(words.iter().filter(|&&word| word != 0).count(), 2);
     assert!(delete(Vec::<u8>::new(), |_| true).is_empty());
@@ -159,9 +160,27 @@ fn scripts_agree_and_differences_become_small() {
         filter: |script| filter(&script.to_ascii_lowercase()),
     };
     let report = bad(&wrong, &mut tally, &mut Random::new(1), 50_000).unwrap_err();
+    assert!(size_in(&report) < 60, "{report}");
+}
+
+/// The size of the script that a report shows.
+fn size_in(report: &str) -> usize {
     let size = report.strip_prefix("script of ").unwrap();
-    let size: usize = size.split(' ').next().unwrap().parse().unwrap();
-    assert!(size < 60, "{report}");
+    size.split(' ').next().unwrap().parse().unwrap()
+}
+
+#[test]
+fn a_script_that_must_be_long_is_no_longer_than_that() {
+    let (program, mut tally) = (program(), Tally::default());
+    let wrong = Sides {
+        program: &program,
+        filter: |script| match script.iter().filter(|&&byte| byte == b'\n').count() {
+            0..200 => filter(script),
+            _ => [&filter(script)[..], b"once more\n"].concat(),
+        },
+    };
+    let report = good(&wrong, &mut tally, &mut Random::new(1), 50_000).unwrap_err();
+    assert_eq!(size_in(&report), 200, "{report}");
 }
 
 #[test]

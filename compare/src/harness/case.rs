@@ -2,7 +2,7 @@
 
 use super::call::{Call, Outcome};
 use super::machine::Machine;
-use super::shrink::{delete, zero, zero_bits};
+use super::shrink::{blank, delete, zero_bits};
 
 #[derive(Clone, Default)]
 pub struct Case {
@@ -54,7 +54,7 @@ impl Case {
         };
         let Case { state, calls } = self;
         let mut calls = delete(calls, |calls| shows(&state, calls));
-        let state = zero(state, |state| shows(state, &calls));
+        let state = blank(state, 0, |state| shows(state, &calls));
         let state = zero_bits(state, |state| shows(state, &calls));
         for at in 0..calls.len() {
             let mut tried = calls.clone();
@@ -77,7 +77,7 @@ fn smaller_lists(call: &Call, mut shows: impl FnMut(Call) -> bool) -> Call {
             };
             let accesses = delete(accesses, |accesses| shows(with(accesses, &lent)));
             let lent = delete(lent, |lent| shows(with(&accesses, lent)));
-            let lent = zero(lent, |lent| shows(with(&accesses, lent)));
+            let lent = blank(lent, 0, |lent| shows(with(&accesses, lent)));
             Call::Batch { accesses, lent }
         }
         Call::Map { guard, lent } => {
@@ -86,7 +86,7 @@ fn smaller_lists(call: &Call, mut shows: impl FnMut(Call) -> bool) -> Call {
                 lent: lent.to_vec(),
             };
             let lent = delete(lent, |lent| shows(with(lent)));
-            let lent = zero(lent, |lent| shows(with(lent)));
+            let lent = blank(lent, 0, |lent| shows(with(lent)));
             Call::Map { guard, lent }
         }
         Call::Lookup { numbers, offset } => {

@@ -1,5 +1,20 @@
 //! Makes what shows a difference as small as it gets.
 
+/// The shortest beginning that shows it, found in a few steps where what comes later does not matter.
+pub fn front<T>(mut items: Vec<T>, mut shows: impl FnMut(&[T]) -> bool) -> Vec<T> {
+    let (mut without, mut with) = (0, items.len());
+    while without + 1 < with {
+        let middle = (without + with) / 2;
+        if shows(&items[..middle]) {
+            with = middle;
+        } else {
+            without = middle;
+        }
+    }
+    items.truncate(with);
+    items
+}
+
 /// Deletes items while the rest still shows it: halves first, single ones last.
 pub fn delete<T: Clone>(mut items: Vec<T>, mut shows: impl FnMut(&[T]) -> bool) -> Vec<T> {
     let mut size = items.len().div_ceil(2);
@@ -20,21 +35,21 @@ pub fn delete<T: Clone>(mut items: Vec<T>, mut shows: impl FnMut(&[T]) -> bool) 
     items
 }
 
-/// Makes items 0 while the list still shows it: halves first, single ones last.
-pub fn zero<T: Copy + Default + PartialEq>(
+/// Makes items nothing while the list still shows it: halves first, single ones last.
+pub fn blank<T: Copy + PartialEq>(
     mut items: Vec<T>,
+    nothing: T,
     mut shows: impl FnMut(&[T]) -> bool,
 ) -> Vec<T> {
-    let nothing = T::default();
     let mut size = items.len();
     while size > 0 {
         for at in (0..items.len()).step_by(size) {
             let end = items.len().min(at + size);
             if items[at..end].iter().any(|&item| item != nothing) {
-                let mut zeroed = items.clone();
-                zeroed[at..end].fill(nothing);
-                if shows(&zeroed) {
-                    items = zeroed;
+                let mut blanked = items.clone();
+                blanked[at..end].fill(nothing);
+                if shows(&blanked) {
+                    items = blanked;
                 }
             }
         }

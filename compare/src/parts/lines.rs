@@ -4,7 +4,7 @@ use crate::generate::damage::damaged;
 use crate::generate::lines::script;
 use crate::harness::program::{Output, Program};
 use crate::harness::random::Random;
-use crate::harness::shrink::delete;
+use crate::harness::shrink::{blank, delete, front};
 use crate::harness::tally::Tally;
 use crate::text::run;
 use std::fmt::Write;
@@ -27,7 +27,7 @@ pub struct Sides<'a> {
 }
 
 /// How long a script is given to become small.
-const PATIENCE: Duration = Duration::from_secs(30);
+const PATIENCE: Duration = Duration::from_secs(600);
 
 /// How many lines of a script or an output are printed.
 const SHOWN: usize = 40;
@@ -41,21 +41,27 @@ impl Sides<'_> {
         self.run(script) != Ok((self.filter)(script))
     }
 
-    /// The smallest script it finds that still shows a difference.
-    fn smallest(&self, script: &[u8]) -> Vec<u8> {
+    /// The smallest script it finds that still shows a difference: of as few lines as it can be, as few of them not empty, and
+    /// these as short. Then whether all was tried in time.
+    fn smallest(&self, script: &[u8]) -> (Vec<u8>, bool) {
         let started = Instant::now();
-        let shows = |script: &[u8]| started.elapsed() < PATIENCE && self.differ(script);
-        let lines = delete(lines_of(script).collect(), |lines: &[&[u8]]| {
-            shows(&lines.concat())
-        });
-        delete(lines.concat(), shows)
+        let in_time = || started.elapsed() < PATIENCE;
+        let shows = |lines: &[&[u8]]| in_time() && self.differ(&lines.concat());
+        let lines = front(lines_of(script).collect(), shows);
+        let lines = blank(delete(lines, shows), b"\n", shows);
+        let bytes = delete(lines.concat(), |bytes| in_time() && self.differ(bytes));
+        (bytes, in_time())
     }
 
     /// The smallest script and both outputs, to be read.
     fn report(&self, script: &[u8]) -> String {
-        let script = self.smallest(script);
+        let (script, smallest) = self.smallest(script);
         let expected = (self.filter)(&script);
         let mut text = format!("script of {} bytes:\n", script.len());
+        if !smallest {
+            let seconds = PATIENCE.as_secs();
+            writeln!(text, "(it may become smaller: given up after {seconds} s)").unwrap();
+        }
         put_bytes(&mut text, &script, 0);
         match self.run(&script) {
             Ok(printed) => {
