@@ -11,8 +11,8 @@ use lib.ListN.{length, drop}
 use Rattle.access.specs.Answer.{numberOf}
 use Rattle.access.specs.declared.answer.Answer.{Answer}
 use Rattle.risaf.specs.Guards.{isGuard}
-use Rattle.spans.specs.Rows.{size, filled}
-use Rattle.spans.proofs.Memory.{rowsIn, size-rows, rows-flat}
+use Rattle.spans.specs.Rows.{size, filled, rowsIn}
+use Rattle.spans.proofs.Memory.{size-rows, rows-flat}
 use Rattle.device.specs.Applied.{sized}
 use Rattle.device.specs.Layout.{stateOf}
 use Rattle.map.specs.Fill.{fillAnswer, fillUsed, fillNumbers, leastRoom}

@@ -10,8 +10,8 @@ use lib.ListN.{length, take, drop, length-append, take-append-drop}
 use Rattle.access.specs.Answer.{numberOf, valueOf}
 use Rattle.access.specs.declared.answer.Answer.{Answer}
 use Rattle.access.specs.declared.answer.Answer.the-variants.{Done, Refused, Locked, NoRegister, NoSuch, Misaligned, Outside, Fetch, WrongLength}
-use Rattle.spans.specs.Rows.{Rows, none, more, size, start, end, rights}
-use Rattle.spans.proofs.Memory.{rowsIn, size-rows}
+use Rattle.spans.specs.Rows.{Rows, none, more, size, start, end, rights, rowsIn}
+use Rattle.spans.proofs.Memory.{size-rows}
 use Rattle.script.specs.Parts.{Wrote}
 use Rattle.script.specs.Print.{answerLine, labelLine, spanLine}
 use Rattle.script.specs.Writing.{over, written, after}

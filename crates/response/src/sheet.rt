@@ -10,8 +10,7 @@ ghost use lib.ListN.{length};
 ghost use Rattle.map.specs.Fill.{leastRoom};
 ghost use Rattle.script.specs.Parts.{Wrote};
 ghost use Rattle.script.specs.Print.{spanLine};
-ghost use Rattle.spans.specs.Rows.{end, rights, start};
-ghost use Rattle.spans.proofs.Memory.{rowsIn};
+ghost use Rattle.spans.specs.Rows.{end, rights, rowsIn, start};
 ghost use Rattle.response.specs.Response.{answerText, mapText, most};
 ghost use Rattle.response.specs.Sheet.{sheet, spanLines};
 

@@ -6,11 +6,11 @@ use mathlib.Core.List.{List, [], _∷_, _++_, append-nil}
 use native.Mathlib.Omega.{arith}
 use native.Mathlib.Numerals.{add-one}
 use lib.ListN.{length, length-append, take, drop}
-use Rattle.spans.specs.Rows.{Rows, none, more, flat, size, filled, start, end, rights}
+use Rattle.spans.specs.Rows.{Rows, none, more, flat, size, filled, start, end, rights, rowsIn}
 use Rattle.spans.specs.Map.{IsMap, mapOf}
 use Rattle.spans.proofs.Order.{below-or, below-or-at}
 use Rattle.spans.proofs.Unique.{Differs, MapRows, map-rows, unique}
-use Rattle.spans.proofs.Memory.{length-flat, flat-more, row-start, row-end, row-rights, rowsIn, size-rows, rows-flat, flat-rows}
+use Rattle.spans.proofs.Memory.{length-flat, flat-more, row-start, row-end, row-rights, size-rows, rows-flat, flat-rows}
 
 -- ---- numbers that have the record are the numbers of the map
 

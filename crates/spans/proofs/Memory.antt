@@ -6,7 +6,7 @@ use native.Mathlib.Omega.{arith}
 use native.Mathlib.Numerals.{add-one, add-two, add-three}
 use lib.ListN.{length, length-append, length-drop, getD, take, drop}
 use lib.Seq.{drop-cons, getD-append-add, take-at, drop-at, take-add}
-use Rattle.spans.specs.Rows.{Rows, none, more, flat, size, filled, start, end, rights}
+use Rattle.spans.specs.Rows.{Rows, none, more, flat, size, filled, start, end, rights, rowsIn}
 
 pub length-flat : (rs : Rows) → length (flat rs) ≡ 3 * size rs
 unfolding flat size
@@ -34,11 +34,6 @@ module _ (rs : Rows) (s e q : ℕ) (rest : List ℕ) where
   row-rights = at-row 2
 
 -- ---- numbers read as rows
-
--- the first n rows of the numbers m
-unfoldable pub rowsIn : ℕ → List ℕ → Rows
-rowsIn zero m = none
-rowsIn (suc k) m = more (rowsIn k m) (start m k) (end m k) (rights m k)
 
 pub size-rows : (n : ℕ) (m : List ℕ) → size (rowsIn n m) ≡ n
 unfolding rowsIn size

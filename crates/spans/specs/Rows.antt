@@ -34,6 +34,11 @@ end m k = getD m (3 * k + 1) 0
 abbrev pub rights : List ℕ → ℕ → ℕ
 rights m k = getD m (3 * k + 2) 0
 
+-- the first n rows of the numbers m
+unfoldable pub rowsIn : ℕ → List ℕ → Rows
+rowsIn zero m = none
+rowsIn (suc k) m = more (rowsIn k m) (start m k) (end m k) (rights m k)
+
 -- whether x is from s to e, both included; never where e is below s
 abbrev pub encloses : ℕ → ℕ → ℕ → Bool
 encloses s e x = leb s x && leb x e
