@@ -6,7 +6,6 @@ use Prim.Native.Nat.{ℕ, zero, suc, _+_, _≤_, _<_}
 use native.Mathlib.Decide.{decLt}
 use native.Mathlib.Omega.{arith}
 use native.Mathlib.Numerals.{add-one}
-use borrow.Author.Tests.{not-true, not-false}
 use Rattle.access.specs.declared.kind.Kind.{Kind}
 use Rattle.risaf.specs.Registers.{base, sub}
 use Rattle.risaf.specs.Rules.{covers, baseGrants, workingSec, workingPriv, opens, decided}
@@ -36,16 +35,11 @@ module _ (w : List ℕ) (x o : ℕ) (k : Kind) (t : Tally) where
   whether b = cond b (subAdded w x 1 o k (subAdded w x 0 o k (withBase (baseGrants w k x) t))) t
 
   -- the code's calls
-  pub added-covered : {c g : Bool} {u v : Tally} → c ≡ covers w (base x) o → not c ≡ false → g ≡ baseGrants w k x
+  pub added-covered : {g : Bool} {u v : Tally} → covers w (base x) o ≡ true → g ≡ baseGrants w k x
       → u ≡ subAdded w x 0 o k (withBase g t) → v ≡ subAdded w x 1 o k u → v ≡ added w x o k t
   unfolding added whether
-  added-covered {c} ec h eg eu ev =
-      ev ∙ ap (subAdded w x 1 o k) (eu ∙ ap (λ (b : Bool). subAdded w x 0 o k (withBase b t)) eg)
-      ∙ sym (ap whether (sym ec ∙ not-false c h))
-
-  pub added-uncovered : {c : Bool} → c ≡ covers w (base x) o → not c ≡ true → t ≡ added w x o k t
-  unfolding added whether
-  added-uncovered {c} ec h = sym (ap whether (sym ec ∙ not-true c h))
+  added-covered c eg eu ev =
+      ev ∙ ap (subAdded w x 1 o k) (eu ∙ ap (λ (b : Bool). subAdded w x 0 o k (withBase b t)) eg) ∙ sym (ap whether c)
 
 pub tally-suc : (w : List ℕ) (n o : ℕ) (k : Kind) → tally w (suc n) o k ≡ added w n o k (tally w n o k)
 unfolding tally added subAdded

@@ -74,3 +74,10 @@ added w x o k t =
 -- no base region from `from` up to r, r not included, covers
 abbrev pub Passed : List ℕ → ℕ → ℕ → ℕ → Type 0
 Passed w o from r = (y : ℕ) → from ≤ y → y < r → covers w (base y) o ≡ false
+
+-- r is the next base region from `from` on that covers, or n
+pub record Next (w : List ℕ) (o from n r : ℕ) : Type 0 where
+  pub low : from ≤ r
+  pub high : r ≤ n
+  pub passed : Passed w o from r
+  pub found : r < n → covers w (base r) o ≡ true

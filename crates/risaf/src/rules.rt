@@ -1,10 +1,12 @@
 use access::Kind;
+ghost use mathlib.Core.Bool.{true};
 ghost use mathlib.Core.Path.{_≡_};
 ghost use Prim.Native.Nat.{_+_, _*_, _≤_, _<_};
 ghost use lib.ListN.{length};
 ghost use Rattle.risaf.specs.Lent.{decidedIn};
+ghost use Rattle.risaf.specs.Registers.{base};
 ghost use Rattle.risaf.specs.Rules.{covers};
-ghost use Rattle.risaf.specs.Tally.{Passed, added, baseAllows, judged, subAdded, tally};
+ghost use Rattle.risaf.specs.Tally.{Next, added, baseAllows, judged, subAdded, tally};
 
 // The rule that governs an offset (0 default, 1 base region, 2 subregion), and whether it grants.
 pub struct Verdict {
@@ -74,15 +76,12 @@ fn sub_added(w: &[u32], x: usize, s: usize, o: u32, k: Kind, t: Tally) -> Tally
     }
 }
 
-// With what base region x and its subregions say: nothing where it does not cover.
+// With what base region x, which covers, and its subregions say.
 fn added(w: &[u32], x: usize, o: u32, k: Kind, t: Tally) -> Tally
-    requires { ⌜ (12 * x + 12 ≤ length (now w)) × (k .cid .0 ≤ 7) ⌝ }
+    requires { ⌜ (12 * x + 12 ≤ length (now w)) × (k .cid .0 ≤ 7) × (covers (now w) (base x) o ≡ true) ⌝ }
     ensures { λ r. ⌜ r ≡ added (now (w .entry)) x o k t ⌝ }
 {
     let b = 12 * x;
-    if !covers(w, b, o) {
-        return t;
-    }
     let granted = t.granted & base_allows(w[b], w[b + 3], k);
     let based = Tally {
         covered: true,
@@ -98,7 +97,7 @@ fn added(w: &[u32], x: usize, o: u32, k: Kind, t: Tally) -> Tally
 // The next base region from `from` on that covers the offset, or n.
 fn next_covering(w: &[u32], from: usize, n: usize, o: u32) -> usize
     requires { ⌜ (from ≤ n) × (12 * n ≤ length (now w)) ⌝ }
-    ensures { λ r. ⌜ (from ≤ r) × (r ≤ n) × Passed (now (w .entry)) o from r ⌝ }
+    ensures { λ r. ⌜ Next (now (w .entry)) o from n r ⌝ }
 {
     let mut x = from;
     while x < n {

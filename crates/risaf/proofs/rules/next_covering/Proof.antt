@@ -1,5 +1,6 @@
 -- `risaf::rules::next_covering` meets its contract: those passed by so far do not cover.
 use borrow.Author.Needs.{needs}
+use mathlib.Core.Path.{sym, _∙_}
 use Prim.Native.Nat.{_-_, _≤_}
 use native.Mathlib.Omega.{arith}
 use Rattle.risaf.specs.Tally.{Passed}
@@ -26,10 +27,14 @@ loop-again c =
     )
 
 returns : tie.Need-returns Inv-loop μ-loop
-returns c = let l = c .before .before .before .loop in (l .inv .0, l .inv .1, l .inv .2)
+returns c =
+    let l = c .before .before .before .loop in
+    record { low = l .inv .0; high = l .inv .1; passed = l .inv .2; found = λ h. sym (c .before .covers .ensures) ∙ c .if1 .taken }
 
 returns-2 : tie.Need-returns-2 Inv-loop μ-loop
-returns-2 c = let l = c .before .loop in (l .inv .0, l .inv .1, l .inv .2)
+returns-2 c =
+    let l = c .before .loop in
+    record { low = l .inv .0; high = l .inv .1; passed = l .inv .2; found = λ h. absurd (omega (arith, c .loop-test .left)) }
 
 pub next-covering-spec : {M : Type 1} → statement M
 next-covering-spec =
