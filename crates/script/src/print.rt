@@ -43,33 +43,17 @@ fn character(d: u64) -> u8
     }
 }
 
-// Writes the last `count` hexadecimal digits of n, and the byte that ends them, from `at` on. The place after them.
-fn put_hex(out: &mut [u8], at: usize, n: u64, count: usize, end: u8) -> usize
-    requires { ⌜ at + count < length (now out) ⌝ }
-    ensures { λ r. ⌜ Wrote (now (out .entry)) at (digitsOf 16 count n ++ (end ∷ [])) (now (out .exit)) r ⌝ }
+// Writes the last `count` digits of n in the base, and the byte that ends them, from `at` on. The place after them.
+fn put_digits(out: &mut [u8], at: usize, base: u64, n: u64, count: usize, end: u8) -> usize
+    requires { ⌜ (at + count < length (now out)) × (0 < base) × (base ≤ 16) ⌝ }
+    ensures { λ r. ⌜ Wrote (now (out .entry)) at (digitsOf base count n ++ (end ∷ [])) (now (out .exit)) r ⌝ }
 {
     let mut m = n;
     let mut k = count;
     while 0 < k {
         k -= 1;
-        out[at + k] = character(m % 16);
-        m = m / 16;
-    }
-    out[at + count] = end;
-    at + count + 1
-}
-
-// Writes the last `count` decimal digits of n, and the byte that ends them, from `at` on. The place after them.
-fn put_decimal(out: &mut [u8], at: usize, n: u64, count: usize, end: u8) -> usize
-    requires { ⌜ at + count < length (now out) ⌝ }
-    ensures { λ r. ⌜ Wrote (now (out .entry)) at (digitsOf 10 count n ++ (end ∷ [])) (now (out .exit)) r ⌝ }
-{
-    let mut m = n;
-    let mut k = count;
-    while 0 < k {
-        k -= 1;
-        out[at + k] = character(m % 10);
-        m = m / 10;
+        out[at + k] = character(m % base);
+        m = m / base;
     }
     out[at + count] = end;
     at + count + 1
@@ -101,7 +85,7 @@ fn print_labelled(out: &mut [u8], at: usize, label: &[u8], n: u64) -> usize
         return at;
     }
     let a = put(out, at, label);
-    put_decimal(out, a, n, count, b'\n')
+    put_digits(out, a, 10, n, count, b'\n')
 }
 
 // Each function below writes a line from `at` on, with its line feed, and gives the place after it. Where there is no room,
@@ -120,8 +104,8 @@ pub fn print_answer(out: &mut [u8], at: usize, number: u64, value: u32) -> usize
         return at;
     }
     let a = put(out, at, b"ans\t");
-    let b = put_decimal(out, a, number, count, b'\t');
-    put_hex(out, b, value as u64, 8, b'\n')
+    let b = put_digits(out, a, 10, number, count, b'\t');
+    put_digits(out, b, 16, value as u64, 8, b'\n')
 }
 
 // `span`, start, end, rights. Of start and end the low 32 bits are printed.
@@ -136,9 +120,9 @@ pub fn print_span(out: &mut [u8], at: usize, start: u64, end: u64, rights: u64) 
         return at;
     }
     let a = put(out, at, b"span\t");
-    let b = put_hex(out, a, start, 8, b'\t');
-    let c = put_hex(out, b, end, 8, b'\t');
-    put_hex(out, c, rights, 16, b'\n')
+    let b = put_digits(out, a, 16, start, 8, b'\t');
+    let c = put_digits(out, b, 16, end, 8, b'\t');
+    put_digits(out, c, 16, rights, 16, b'\n')
 }
 
 // `guard`, n.

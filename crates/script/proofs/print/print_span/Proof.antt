@@ -18,30 +18,30 @@ returns-2 c =
     refused (a .out .now) (a .at) (spanLine (a .start) (a .end) (a .rights))
     (omega (arith, span-length (a .start) (a .end) (a .rights)))
 
-put-hex-requires-2 : tie.Need-put-hex-requires-2
-put-hex-requires-2 c κs =
+put-digits-requires-2 : tie.Need-put-digits-requires-2
+put-digits-requires-2 c κs =
     let d = c .before .before .before in
     let a = d .before .before .before .before in
     omega (
       arith,
-      d .put-hex .ensures .next,
-      d .put-hex .kept .0,
+      d .put-digits .ensures .next,
+      d .put-digits .kept .0,
       a .put .ensures .next,
       a .put .kept .0,
       ended-length 16 8 (a .before .before .before .before .before .before .args .start) 9,
     )
 
-put-hex-requires-3 : tie.Need-put-hex-requires-3
-put-hex-requires-3 c κs =
+put-digits-requires-3 : tie.Need-put-digits-requires-3
+put-digits-requires-3 c κs =
     let e = c .before .before .before in
     let d = e .before .before .before .before in
     let a = d .before .before .before .before in
     omega (
       arith,
-      e .put-hex2 .ensures .next,
-      e .put-hex2 .kept .0,
-      d .put-hex .ensures .next,
-      d .put-hex .kept .0,
+      e .put-digits2 .ensures .next,
+      e .put-digits2 .kept .0,
+      d .put-digits .ensures .next,
+      d .put-digits .kept .0,
       a .put .ensures .next,
       a .put .kept .0,
       ended-length 16 8 (a .before .before .before .before .before .before .args .start) 9,
@@ -55,11 +55,11 @@ unfolding spanLine
 returns-3 c =
     whole
     (join
-    (join (join (c .before .before .before .before .before .before .before .before .before .before .before .before .before .before .put .ensures) (c .before .before .before .before .before .before .before .before .before .before .put-hex .ensures)) (c .before .before .before .before .before .before .put-hex2 .ensures))
-    (c .before .before .put-hex3 .ensures))
+    (join (join (c .before .before .before .before .before .before .before .before .before .before .before .before .before .before .put .ensures) (c .before .before .before .before .before .before .before .before .before .before .put-digits .ensures)) (c .before .before .before .before .before .before .put-digits2 .ensures))
+    (c .before .before .put-digits3 .ensures))
 
 pub print-span-spec : {M : Type 1} → statement M
 print-span-spec =
     tie.close
     (tie.spec returns (λ c. search needs) returns-2 (λ c. search needs) (λ c κs. search needs) (λ c κs. search needs)
-    put-hex-requires-2 put-hex-requires-3 (λ c. search needs) returns-3)
+    put-digits-requires-2 put-digits-requires-3 (λ c. search needs) returns-3)
