@@ -1,18 +1,27 @@
 -- A line by what it reads as.
-use mathlib.Core.List.{List}
+use mathlib.Core.List.{List, [], _∷_}
 use mathlib.Core.Path.{_≡_, refl, sym, _∙_}
 use Prim.Native.Nat.{ℕ, _+_, _≤_, _<_}
 use borrow.Author.Tests.{le-leb, lt-leb}
+use denote.Enum.Declared.{tagOf}
 use lib.ListN.{length}
+use types.Run.{OneOf, miss}
 use Rattle.device.specs.Applied.{appliedAnswer, appliedState}
 use Rattle.device.specs.declared.event.Event.{Event}
 use Rattle.risaf.specs.declared.guards.GuardNumber.{GuardNumber}
+use Rattle.script.proofs.command.Command.{the-type}
 use Rattle.script.specs.Command.{commandOf}
 use Rattle.script.specs.Parts.{Wrote}
 use Rattle.script.specs.Print.{badLine}
 use Rattle.script.specs.declared.command.Command.{Command}
 use Rattle.script.specs.declared.command.Command.the-variants.{Event as AnEvent, Map, Bad}
 use Rattle.response.specs.Response.{answerText, bytesAfter, mapText, most, nextOf, placeAfter, stateAfter, textOf}
+
+-- a line that is neither a map request nor an event is bad: the variants' numbers are 0, 1, 2
+neither : (c : Command) → OneOf (0 ∷ 2 ∷ []) (tagOf the-type c) → OneOf (1 ∷ 2 ∷ []) (tagOf the-type c) → c ≡ Bad
+neither (AnEvent e) h k = absurd (miss (1 ∷ 2 ∷ []) 0 tt k)
+neither (Map n) h k = absurd (miss (0 ∷ 2 ∷ []) 1 tt h)
+neither Bad h k = refl
 
 module _ {out out′ : List ℕ} {at p : ℕ} (m : List ℕ) (number : ℕ) {r : Command} (line : Command) (read : r ≡ line) where
   pub event-line : {m′ : List ℕ} (e : Event) → r ≡ AnEvent e → Wrote out at (answerText (appliedAnswer e m)) out′ p
@@ -25,9 +34,10 @@ module _ {out out′ : List ℕ} {at p : ℕ} (m : List ℕ) (number : ℕ) {r :
   unfolding textOf nextOf
   map-line n k w = rw (sym read ∙ k) (w, refl)
 
-  pub bad-line : r ≡ Bad → Wrote out at (badLine number) out′ p → Wrote out at (textOf line number m) out′ p × (m ≡ nextOf line m)
+  pub bad-line : OneOf (0 ∷ 2 ∷ []) (tagOf the-type r) → OneOf (1 ∷ 2 ∷ []) (tagOf the-type r) → Wrote out at (badLine number) out′ p
+      → Wrote out at (textOf line number m) out′ p × (m ≡ nextOf line m)
   unfolding textOf nextOf
-  bad-line k w = rw (sym read ∙ k) (w, refl)
+  bad-line h k w = rw (sym read ∙ neither r h k) (w, refl)
 
 -- ---- a line, with and without room
 

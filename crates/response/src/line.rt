@@ -41,11 +41,13 @@ fn obey(line: &[u8], number: u64, state: &mut [u32], out: &mut [u8], at: usize) 
     ensures { λ _. ⌜ now (state .exit) ≡ nextOf (commandOf (now (line .entry))) (now (state .entry)) ⌝ }
 {
     let command = read_line(line);
-    match command {
-        Command::Event(event) => obey_event(event, state, out, at),
-        Command::Map(guard) => put_map(out, at, state, guard),
-        Command::Bad => put_bad(out, at, number),
+    if let Command::Map(guard) = command {
+        return put_map(out, at, state, guard);
     }
+    let Command::Event(event) = command else {
+        return put_bad(out, at, number);
+    };
+    obey_event(event, state, out, at)
 }
 
 // A line's bytes before the line feed, obeyed: its text goes to `out` from `at` on, and the place after it is given back. `number` is
