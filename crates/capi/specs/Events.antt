@@ -2,16 +2,16 @@
 use mathlib.Core.Bool.{Bool, cond}
 use mathlib.Core.List.{List}
 use Prim.Native.Nat.{ℕ}
-use lib.Dec.{eqb}
 use Rattle.access.specs.Answer.{encodedOf}
 use Rattle.access.specs.declared.answer.Answer.the-variants.{NoSuch, WrongLength}
 use Rattle.device.specs.Applied.{sized, appliedAnswer, appliedState}
-use Rattle.device.specs.declared.event.Block.{Block}
-use Rattle.device.specs.declared.event.Block.the-variants.{Rifsc, Iac, Risaf}
-use Rattle.device.specs.declared.event.Operation.{Operation}
-use Rattle.device.specs.declared.event.Operation.the-variants.{Read, Write, Fetch}
 use Rattle.device.specs.declared.event.Event.{Event}
 use Rattle.device.specs.declared.event.Event.the-variants.{Register, Peripheral, Memory, Master}
+use Rattle.capi.specs.Numbers.{blockOf, operationOf}
+use Rattle.capi.specs.declared.numbers.NamedBlock.{NamedBlock}
+use Rattle.capi.specs.declared.numbers.NamedBlock.the-variants.{Is, NoBlock}
+use Rattle.capi.specs.declared.numbers.NamedOperation.{NamedOperation}
+use Rattle.capi.specs.declared.numbers.NamedOperation.the-variants.{Does, NoOperation}
 
 -- ---- what is asked for: an event, or nothing, where a number stands for no block or for no operation
 
@@ -19,36 +19,28 @@ pub data Asked : Type 0 where
   event : Event → Asked
   nothing : Asked
 
--- block: 0 RIFSC, 1 IAC, 2 RISAF
 unfoldable pub registerAsked : ℕ → ℕ → ℕ → Bool → ℕ → Bool → Bool → Asked
-registerAsked block guard offset write value secure privileged =
-    cond (eqb block 0) (at Rifsc)
-    (cond (eqb block 1) (at Iac)
-    (cond (eqb block 2) (at (Risaf (record { 0 = guard })))
-    nothing))
+registerAsked block guard offset write value secure privileged = at (blockOf block guard)
   where
-    at : Block → Asked
-    at b =
+    at : NamedBlock → Asked
+    at (Is b) =
         event
         (Register
         (record {
           block = b;
           request = record { offset = offset; write = write; value = value; secure = secure; privileged = privileged };
         }))
+    at NoBlock = nothing
 
--- operation: 0 read, 1 write, 2 fetch
 unfoldable pub peripheralAsked : ℕ → ℕ → Bool → Bool → Asked
-peripheralAsked peripheral operation secure privileged =
-    cond (eqb operation 0) (to Read)
-    (cond (eqb operation 1) (to Write)
-    (cond (eqb operation 2) (to Fetch)
-    nothing))
+peripheralAsked peripheral operation secure privileged = to (operationOf operation)
   where
-    to : Operation → Asked
-    to o =
+    to : NamedOperation → Asked
+    to (Does o) =
         event
         (Peripheral
         (record { peripheral = record { 0 = peripheral }; operation = o; secure = secure; privileged = privileged }))
+    to NoOperation = nothing
 
 -- its answer, as C has it: 4 to nothing, but 8 comes first
 unfoldable pub askedAnswer : Asked → List ℕ → ℕ

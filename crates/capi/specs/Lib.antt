@@ -1,2 +1,3 @@
 pub mod Events
 pub mod Maps
+pub mod Numbers

@@ -1,12 +1,13 @@
+use crate::numbers::NamedBlock;
+use crate::numbers::NamedOperation;
+use crate::numbers::block_of;
+use crate::numbers::operation_of;
 use access::Answer;
 use access::Cid;
 use access::Kind;
 use access::Request;
-use device::Block;
-use device::Event;
 use device::MasterAccess;
 use device::MemoryAccess;
-use device::Operation;
 use device::PeripheralAccess;
 use device::RegisterAccess;
 use rifsc::MasterNumber;
@@ -15,7 +16,7 @@ use risaf::GuardNumber;
 ghost use mathlib.Core.Path.{_≡_};
 ghost use Rattle.access.specs.Answer.{encodedOf};
 ghost use Rattle.device.specs.Applied.{appliedAnswer, appliedState, lineAnswer};
-ghost use Rattle.device.specs.declared.event.Event.the-variants.{Peripheral, Register, Reset};
+ghost use Rattle.device.specs.declared.event.Event.the-variants.{Reset};
 ghost use Rattle.capi.specs.Events.{
   askedAnswer,
   askedState,
@@ -37,26 +38,12 @@ fn nothing(state: &[u32]) -> u64
     }
 }
 
-fn at_register(state: &mut [u32], a: RegisterAccess) -> u64
-    ensures answer { λ r. ⌜ r ≡ encodedOf (appliedAnswer (Register a) (now (state .entry))) ⌝ }
-    ensures next { λ _. ⌜ now (state .exit) ≡ appliedState (Register a) (now (state .entry)) ⌝ }
-{
-    device::apply_register(state, a).encoded()
-}
-
-fn at_peripheral(state: &mut [u32], a: PeripheralAccess) -> u64
-    ensures answer { λ r. ⌜ r ≡ encodedOf (appliedAnswer (Peripheral a) (now (state .entry))) ⌝ }
-    ensures next { λ _. ⌜ now (state .exit) ≡ appliedState (Peripheral a) (now (state .entry)) ⌝ }
-{
-    device::apply_peripheral(state, a).encoded()
-}
-
 #[no_mangle]
 pub extern "C" fn rif_reset(state: &mut [u32]) -> u64
     ensures answer { λ r. ⌜ r ≡ encodedOf (appliedAnswer Reset (now (state .entry))) ⌝ }
     ensures next { λ _. ⌜ now (state .exit) ≡ appliedState Reset (now (state .entry)) ⌝ }
 {
-    device::apply(state, Event::Reset).encoded()
+    device::apply_reset(state).encoded()
 }
 
 #[no_mangle]
@@ -73,6 +60,9 @@ pub extern "C" fn rif_register(
     ensures answer { λ r. ⌜ r ≡ askedAnswer (registerAsked block guard offset write value secure privileged) (now (state .entry)) ⌝ }
     ensures next { λ _. ⌜ now (state .exit) ≡ askedState (registerAsked block guard offset write value secure privileged) (now (state .entry)) ⌝ }
 {
+    let NamedBlock::Is(block) = block_of(block, guard) else {
+        return nothing(state);
+    };
     let request = Request {
         offset,
         write,
@@ -80,30 +70,7 @@ pub extern "C" fn rif_register(
         secure,
         privileged,
     };
-    match block {
-        0 => at_register(
-            state,
-            RegisterAccess {
-                block: Block::Rifsc,
-                request,
-            },
-        ),
-        1 => at_register(
-            state,
-            RegisterAccess {
-                block: Block::Iac,
-                request,
-            },
-        ),
-        2 => at_register(
-            state,
-            RegisterAccess {
-                block: Block::Risaf(GuardNumber(guard)),
-                request,
-            },
-        ),
-        _ => nothing(state),
-    }
+    device::apply_register(state, RegisterAccess { block, request }).encoded()
 }
 
 #[no_mangle]
@@ -117,37 +84,16 @@ pub extern "C" fn rif_peripheral(
     ensures answer { λ r. ⌜ r ≡ askedAnswer (peripheralAsked peripheral operation secure privileged) (now (state .entry)) ⌝ }
     ensures next { λ _. ⌜ now (state .exit) ≡ askedState (peripheralAsked peripheral operation secure privileged) (now (state .entry)) ⌝ }
 {
-    let p = PeripheralNumber(peripheral);
-    match operation {
-        0 => at_peripheral(
-            state,
-            PeripheralAccess {
-                peripheral: p,
-                operation: Operation::Read,
-                secure,
-                privileged,
-            },
-        ),
-        1 => at_peripheral(
-            state,
-            PeripheralAccess {
-                peripheral: p,
-                operation: Operation::Write,
-                secure,
-                privileged,
-            },
-        ),
-        2 => at_peripheral(
-            state,
-            PeripheralAccess {
-                peripheral: p,
-                operation: Operation::Fetch,
-                secure,
-                privileged,
-            },
-        ),
-        _ => nothing(state),
-    }
+    let NamedOperation::Does(operation) = operation_of(operation) else {
+        return nothing(state);
+    };
+    let access = PeripheralAccess {
+        peripheral: PeripheralNumber(peripheral),
+        operation,
+        secure,
+        privileged,
+    };
+    device::apply_peripheral(state, access).encoded()
 }
 
 #[no_mangle]

@@ -2,3 +2,4 @@
 pub mod batches;
 pub mod events;
 pub mod maps;
+mod numbers;

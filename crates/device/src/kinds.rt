@@ -8,10 +8,22 @@ use crate::event::PeripheralAccess;
 use crate::event::RegisterAccess;
 use crate::memory::access_memory;
 use crate::peripherals::access_peripheral;
+use crate::reset::reset;
 use access::Answer;
 ghost use mathlib.Core.Path.{_≡_};
 ghost use Rattle.device.specs.Applied.{appliedAnswer, appliedState};
-ghost use Rattle.device.specs.declared.event.Event.the-variants.{Master, Memory, Peripheral, Register};
+ghost use Rattle.device.specs.declared.event.Event.the-variants.{Master, Memory, Peripheral, Register, Reset};
+
+pub fn apply_reset(state: &mut [u32]) -> Answer
+    ensures answer { λ r. ⌜ r ≡ appliedAnswer Reset (now (state .entry)) ⌝ }
+    ensures next { λ _. ⌜ now (state .exit) ≡ appliedState Reset (now (state .entry)) ⌝ }
+{
+    if state.len() != STATE_WORDS {
+        return Answer::WrongLength;
+    }
+    reset(state);
+    Answer::Done(0)
+}
 
 pub fn apply_register(state: &mut [u32], a: RegisterAccess) -> Answer
     ensures answer { λ r. ⌜ r ≡ appliedAnswer (Register a) (now (state .entry)) ⌝ }

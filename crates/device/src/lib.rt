@@ -27,3 +27,4 @@ pub use kinds::apply_master;
 pub use kinds::apply_memory;
 pub use kinds::apply_peripheral;
 pub use kinds::apply_register;
+pub use kinds::apply_reset;

@@ -7,7 +7,7 @@ use Rattle.capi.proofs.events.rif_reset.Tie as tie
 
 returns : tie.Need-returns
 returns c =
-    let u = c .before .before .before .apply in
+    let u = c .before .before .before .apply-reset in
     (c .encoded .ensures ∙ ap encodedOf (u .ensures .0), u .ensures .1)
 
 pub rif-reset-spec : {M : Type 1} → statement M

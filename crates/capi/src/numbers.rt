@@ -1,0 +1,39 @@
+// What a number of a call stands for.
+use device::Block;
+use device::Operation;
+use risaf::GuardNumber;
+ghost use mathlib.Core.Path.{_≡_};
+ghost use Rattle.capi.specs.Numbers.{blockOf, operationOf};
+
+pub(crate) enum NamedBlock {
+    Is(Block),
+    NoBlock,
+}
+
+pub(crate) enum NamedOperation {
+    Does(Operation),
+    NoOperation,
+}
+
+// Block 2 is the RISAF that the guard's number says.
+pub(crate) fn block_of(block: u32, guard: u32) -> NamedBlock
+    ensures { λ r. ⌜ r ≡ blockOf block guard ⌝ }
+{
+    match block {
+        0 => NamedBlock::Is(Block::Rifsc),
+        1 => NamedBlock::Is(Block::Iac),
+        2 => NamedBlock::Is(Block::Risaf(GuardNumber(guard))),
+        _ => NamedBlock::NoBlock,
+    }
+}
+
+pub(crate) fn operation_of(operation: u32) -> NamedOperation
+    ensures { λ r. ⌜ r ≡ operationOf operation ⌝ }
+{
+    match operation {
+        0 => NamedOperation::Does(Operation::Read),
+        1 => NamedOperation::Does(Operation::Write),
+        2 => NamedOperation::Does(Operation::Fetch),
+        _ => NamedOperation::NoOperation,
+    }
+}
