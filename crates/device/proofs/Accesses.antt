@@ -8,9 +8,9 @@ use Rattle.access.specs.declared.answer.Answer.the-variants.{NoSuch}
 use Rattle.access.specs.declared.kind.Kind.{Kind}
 use Rattle.risaf.specs.Guards.{isGuard, shapeOf}
 use Rattle.risaf.specs.Memory.{isWidth, checksOf, answerOf, accessed}
-use Rattle.risaf.specs.Rules.{decided}
+use Rattle.regions.specs.Rules.{decided}
 use Rattle.risaf.specs.declared.guards.Shape.{Shape}
-use Rattle.risaf.specs.declared.rules.Verdict.{Verdict}
+use Rattle.regions.specs.declared.rules.Verdict.{Verdict}
 use Rattle.device.specs.InPlace.{isDone, isRefused, verdictOf}
 use Rattle.device.specs.State.{State, guardOf}
 use Rattle.device.specs.Step.{memoryStep}

@@ -25,7 +25,8 @@ use Rattle.rifsc.specs.declared.registers.Register.the-variants as in-rifsc
 use Rattle.risaf.specs.Contents as risaf-contents
 use Rattle.risaf.specs.Contents.{regionWord, withRegionWord}
 use Rattle.risaf.specs.Port as risaf
-use Rattle.risaf.specs.Registers.{named, base, sub}
+use Rattle.regions.specs.Words.{base, sub}
+use Rattle.risaf.specs.Registers.{named}
 use Rattle.risaf.specs.declared.contents.Guard.{Guard}
 use Rattle.risaf.specs.declared.registers.Register.{Register as GuardRegister}
 use Rattle.risaf.specs.declared.registers.Register.the-variants as in-risaf

@@ -18,7 +18,7 @@ use Rattle.risaf.specs.Contents as risaf-contents
 use Rattle.risaf.specs.Contents.{regionReset, regionsReset}
 use Rattle.risaf.specs.Guards.{isGuard}
 use Rattle.risaf.specs.Port as risaf
-use Rattle.risaf.specs.Registers.{sub}
+use Rattle.regions.specs.Words.{sub}
 use Rattle.risaf.specs.declared.contents.Guard.{Guard}
 use Rattle.device.specs.Locks.{Lock, glock, rimcLock, rlock, guardLock, subLock, Named, isSet, NotReset, NoReset, Settings, guardSettings, settings}
 use Rattle.device.specs.Run.{run}

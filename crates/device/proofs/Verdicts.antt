@@ -10,8 +10,8 @@ use borrow.Author.Tests.{le-leb}
 use Rattle.access.specs.Offset.{within}
 use Rattle.access.specs.declared.kind.Kind.{Kind}
 use Rattle.risaf.specs.Guards.{isGuard, shapeOf}
-use Rattle.risaf.specs.Lent.{enough, decidedIn}
-use Rattle.risaf.specs.Rules.{decided}
+use Rattle.regions.specs.Lent.{enough, decidedIn}
+use Rattle.regions.specs.Rules.{decided}
 use Rattle.risaf.specs.declared.contents.Guard.{Guard}
 use Rattle.risaf.specs.declared.guards.Shape.{Shape}
 use Rattle.device.specs.State.{State, guardOf}

@@ -9,8 +9,8 @@ use Rattle.access.specs.declared.answer.Answer.the-variants.{Done, Refused, Loc
 use Rattle.access.specs.declared.kind.Kind.{Kind}
 use Rattle.risaf.specs.Guards.{isGuard, shapeOf}
 use Rattle.risaf.specs.Memory.{iasrFaulted, iaesrFaulted, iaddrFaulted}
-use Rattle.risaf.specs.Rules.{decided}
-use Rattle.risaf.specs.declared.rules.Verdict.{Verdict}
+use Rattle.regions.specs.Rules.{decided}
+use Rattle.regions.specs.declared.rules.Verdict.{Verdict}
 use Rattle.device.specs.State.{State, guardOf}
 
 abbrev pub isDone : Answer → Bool

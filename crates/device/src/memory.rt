@@ -3,8 +3,8 @@ use crate::outcome::is_refused;
 use crate::places::guard_place;
 use access::Answer;
 use access::Kind;
+use regions::Verdict;
 use risaf::GuardNumber;
-use risaf::Verdict;
 use risaf::memory::iaddr_faulted;
 use risaf::memory::iaesr_faulted;
 use risaf::memory::iasr_faulted;
@@ -34,7 +34,7 @@ fn verdict_at(state: &[u32], guard: GuardNumber, o: u32, k: Kind) -> Verdict
     let start = guard_place(guard.0) + 4;
     let end = start + 132;
     let shape = guard.shape();
-    risaf::rules::decide(&state[start..end], shape.regions, o, k)
+    regions::decide(&state[start..end], shape.regions, o, k)
 }
 
 // What a refused access stores in the fault registers of the guard whose words begin at b.

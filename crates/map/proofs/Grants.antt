@@ -14,9 +14,9 @@ use Rattle.access.specs.declared.answer.Answer.the-variants.{Done, Refused}
 use Rattle.access.specs.declared.kind.Kind.{Kind}
 use Rattle.risaf.specs.Guards.{isGuard, shapeOf}
 use Rattle.risaf.specs.Memory.{checksOf, answerOf, accessed}
-use Rattle.risaf.specs.Rights.{rights}
-use Rattle.risaf.specs.Rules.{decided}
-use Rattle.risaf.proofs.RightsBits.{rights-bit}
+use Rattle.regions.specs.Rights.{rights}
+use Rattle.regions.specs.Rules.{decided}
+use Rattle.regions.proofs.RightsBits.{rights-bit}
 use Rattle.device.specs.State.{State, guardOf}
 use Rattle.device.specs.Step.{memoryStep, step}
 use Rattle.map.specs.Demand.{grantsAt}

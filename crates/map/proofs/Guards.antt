@@ -10,8 +10,8 @@ use lib.ListN.{length, take, drop}
 use borrow.Author.Tests.{le-leb, not-false}
 use Rattle.access.specs.Offset.{within}
 use Rattle.risaf.specs.Guards.{isGuard, shapeOf}
-use Rattle.risaf.specs.Lent.{rightsIn}
-use Rattle.risaf.specs.Rights.{rights}
+use Rattle.regions.specs.Lent.{rightsIn}
+use Rattle.regions.specs.Rights.{rights}
 use Rattle.risaf.specs.declared.contents.Guard.{Guard}
 use Rattle.risaf.specs.declared.guards.Shape.{Shape}
 use Rattle.device.specs.State.{guardOf}

@@ -8,7 +8,7 @@ use lib.ListN.{length}
 use borrow.Author.Tests.{eq-eqb, le-leb}
 use Rattle.access.specs.declared.answer.Answer.the-variants.{Done}
 use Rattle.risaf.specs.Guards.{isGuard, shapeOf}
-use Rattle.risaf.specs.Rights.{rights}
+use Rattle.regions.specs.Rights.{rights}
 use Rattle.risaf.specs.declared.guards.Shape.{Shape}
 use Rattle.spans.specs.Map.{mapOf}
 use Rattle.spans.specs.Rows.{Rows, filled, size}

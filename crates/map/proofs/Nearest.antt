@@ -4,7 +4,7 @@ use mathlib.Core.List.{List, _∷_}
 use mathlib.Core.Path.{_≡_, refl, ap, _∙_}
 use Prim.Native.Nat.{ℕ, suc, _+_, _*_}
 use native.Mathlib.Omega.{arith}
-use Rattle.risaf.specs.Registers.{base, sub}
+use Rattle.regions.specs.Words.{base, sub}
 use Rattle.spans.specs.Sweep.{nextOf, boundsOf}
 use Rattle.map.specs.Bounds.{enabled, pairAt, withPair, pairsOf, nearerPair, nearerAt, nearerRegion}
 

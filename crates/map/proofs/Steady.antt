@@ -9,12 +9,12 @@ use Rattle.words.specs.Laws.{word-cong}
 use Rattle.access.specs.Kind.{kindOf}
 use Rattle.access.specs.declared.kind.Kind.{Kind}
 use Rattle.risaf.specs.Guards.{shapeOf}
-use Rattle.risaf.specs.Registers.{base, sub}
-use Rattle.risaf.specs.Rights.{rights}
-use Rattle.risaf.specs.Rules.{covers}
-use Rattle.risaf.specs.Tally.{tally, added, subAdded, judged}
-use Rattle.risaf.specs.declared.rules.Verdict.{Verdict}
-use Rattle.risaf.proofs.Tally.{tally-suc, decided-judged}
+use Rattle.regions.specs.Words.{base, sub}
+use Rattle.regions.specs.Rights.{rights}
+use Rattle.regions.specs.Rules.{covers}
+use Rattle.regions.specs.Tally.{tally, added, subAdded, judged}
+use Rattle.regions.specs.declared.rules.Verdict.{Verdict}
+use Rattle.regions.proofs.Tally.{tally-suc, decided-judged}
 use Rattle.spans.specs.Rows.{encloses, size}
 use Rattle.spans.specs.Map.{mapOf}
 use Rattle.spans.specs.Sweep.{sweptMap, boundsOf}

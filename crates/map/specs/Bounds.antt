@@ -5,7 +5,7 @@ use mathlib.Core.List.{List, [], _∷_}
 use Prim.Native.Nat.{ℕ, zero, suc, _+_}
 use lib.ListN.{getD}
 use Rattle.words.specs.Bit.{bit}
-use Rattle.risaf.specs.Registers.{base, sub}
+use Rattle.regions.specs.Words.{base, sub}
 use Rattle.spans.specs.Sweep.{nearer}
 
 -- the region or subregion at p is enabled; one that is not covers no offset

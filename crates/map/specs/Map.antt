@@ -1,7 +1,7 @@
 -- The map of a guard: of its rights at each offset, below its window.
 use Prim.Native.Nat.{ℕ}
 use Rattle.risaf.specs.Guards.{shapeOf}
-use Rattle.risaf.specs.Rights.{rights}
+use Rattle.regions.specs.Rights.{rights}
 use Rattle.spans.specs.Rows.{Rows}
 use Rattle.spans.specs.Map.{mapOf}
 use Rattle.device.specs.State.{State, guardOf}

@@ -1,13 +1,13 @@
 use crate::bounds::next;
 use access::Answer;
+use regions::rights_at;
 use risaf::GuardNumber;
-use risaf::rights::rights_at;
 ghost use mathlib.Core.Bool.{true};
 ghost use mathlib.Core.Path.{_≡_};
 ghost use Prim.Native.Nat.{_+_, _*_, _^_, _≤_};
 ghost use lib.ListN.{length};
 ghost use Rattle.risaf.specs.Guards.{isGuard};
-ghost use Rattle.risaf.specs.Rights.{rights};
+ghost use Rattle.regions.specs.Rights.{rights};
 ghost use Rattle.spans.specs.Map.{mapOf};
 ghost use Rattle.spans.specs.Rows.{filled, size};
 ghost use Rattle.device.specs.Layout.{stateOf, stateWords};

@@ -1,16 +1,9 @@
-pub mod Digits
 pub mod Each
-pub mod Enough
 pub mod FormLaws
-pub mod MaskTally
 pub mod MemoryAnswer
 pub mod Outcomes
 pub mod PortSteps
 pub mod RegisterMap
-pub mod RightsBits
-pub mod RightsBytes
 pub mod Shapes
 pub mod Slots
-pub mod Steady
 pub mod Stores
-pub mod Tally

@@ -15,13 +15,13 @@ use Rattle.access.specs.declared.answer.Answer.the-variants.{NoSuch}
 use Rattle.access.specs.declared.checks.Checks.{Checks}
 use Rattle.access.specs.declared.kind.Kind.{Kind}
 use Rattle.risaf.specs.Guards.{isGuard, shapeOf}
-use Rattle.risaf.specs.Lent.{enough, decidedIn}
+use Rattle.regions.specs.Lent.{enough, decidedIn}
 use Rattle.risaf.specs.Memory.{isWidth, checksOf, answerOf, faulted, accessed}
-use Rattle.risaf.specs.Rules.{decided}
+use Rattle.regions.specs.Rules.{decided}
 use Rattle.risaf.specs.declared.contents.Guard.{Guard}
 use Rattle.risaf.specs.declared.guards.Shape.{Shape}
-use Rattle.risaf.specs.declared.rules.Verdict.{Verdict}
-use Rattle.risaf.proofs.Enough.{decided-enough}
+use Rattle.regions.specs.declared.rules.Verdict.{Verdict}
+use Rattle.regions.proofs.Enough.{decided-enough}
 use Rattle.risaf.proofs.Outcomes.{left-refused, left-kept}
 use Rattle.risaf.proofs.Shapes.{regions-most}
 

@@ -13,7 +13,8 @@ use Rattle.risaf.specs.Contents.{withRegionWord, stored, withStored}
 use Rattle.risaf.specs.Memory.{iasrFaulted, iaesrFaulted, iaddrFaulted, faulted}
 use Rattle.risaf.specs.Places.{guardWords, slotOf, placeAt, wordAt, placeOf}
 use Rattle.risaf.specs.Port.{refused}
-use Rattle.risaf.specs.Registers.{known, writable, base, sub, regionOf, subOf}
+use Rattle.regions.specs.Words.{base, sub}
+use Rattle.risaf.specs.Registers.{known, writable, regionOf, subOf}
 use Rattle.risaf.specs.declared.contents.Guard.{Guard}
 use Rattle.risaf.specs.declared.registers.Register.{Register}
 use Rattle.risaf.specs.declared.registers.Register.the-variants.{Cr, Iasr, Iacr, Iaesr, Iaddr, Cfgr, Start, End, Cidcfgr, SubCfgr, SubStart, SubEnd, Nest, Unknown}

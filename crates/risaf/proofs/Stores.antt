@@ -12,7 +12,8 @@ use Rattle.words.specs.Bit.{bit}
 use Rattle.risaf.specs.Contents.{regionWord, withRegionWord, withIasr, stored, withStored, seen, reset}
 use Rattle.risaf.specs.Forms.{formOf}
 use Rattle.risaf.specs.Places.{guardWords, placeAt, wordAt, looked, seenIn}
-use Rattle.risaf.specs.Registers.{base, sub, regionOf, subOf}
+use Rattle.regions.specs.Words.{base, sub}
+use Rattle.risaf.specs.Registers.{regionOf, subOf}
 use Rattle.risaf.specs.declared.contents.Guard.{Guard}
 use Rattle.risaf.specs.declared.contents.Seen.{Seen}
 use Rattle.risaf.specs.declared.registers.Register.{Register}

@@ -3,7 +3,8 @@ use mathlib.Core.List.{List, [], _∷_, _++_}
 use Prim.Native.Nat.{ℕ, zero, suc, _+_, _-_}
 use lib.ListN.{getD, set}
 use Rattle.words.specs.Bit.{bit}
-use Rattle.risaf.specs.Registers.{regionOf, subOf, base, sub, granule}
+use Rattle.regions.specs.Words.{base, sub}
+use Rattle.risaf.specs.Registers.{regionOf, subOf, granule}
 use Rattle.risaf.specs.declared.registers.Register.{Register}
 use Rattle.risaf.specs.declared.registers.Register.the-variants.{Cr, Iasr, Iacr, Iaesr, Iaddr, Cfgr, Start, End, Cidcfgr, SubCfgr, SubStart, SubEnd, Nest, Unknown}
 use Rattle.risaf.specs.declared.contents.Guard.{Guard}

@@ -4,9 +4,4 @@ pub mod Contents
 pub mod Port
 pub mod Places
 pub mod Forms
-pub mod Rules
-pub mod Rights
-pub mod Lent
-pub mod Tally
-pub mod Masks
 pub mod Memory

@@ -9,12 +9,12 @@ use Rattle.access.specs.declared.answer.Answer.{Answer}
 use Rattle.access.specs.declared.checks.Checks.{Checks}
 use Rattle.access.specs.declared.kind.Kind.{Kind}
 use Rattle.risaf.specs.Registers.{named}
-use Rattle.risaf.specs.Rules.{decided}
+use Rattle.regions.specs.Rules.{decided}
 use Rattle.risaf.specs.declared.registers.Register.the-variants.{Iaesr}
 use Rattle.risaf.specs.declared.guards.Shape.{Shape}
 use Rattle.risaf.specs.declared.contents.Guard.{Guard}
 use Rattle.risaf.specs.declared.contents.Stepped.{Stepped}
-use Rattle.risaf.specs.declared.rules.Verdict.{Verdict}
+use Rattle.regions.specs.declared.rules.Verdict.{Verdict}
 
 abbrev pub isWidth : ℕ → Bool
 isWidth width = eqb width 1 || eqb width 2 || eqb width 4

@@ -143,15 +143,7 @@ named (SubEnd x s) = 0xffff_ffff
 named (Nest x s) = 0x0000_0074
 named Unknown = 0
 
--- ---- where a region's words lie
-
--- base region x: CFGR, START, END, CIDCFGR from here
-abbrev pub base : ℕ → ℕ
-base x = 12 * x
-
--- subregion s of base region x: CFGR, START, END, NEST from here
-abbrev pub sub : ℕ → ℕ → ℕ
-sub x s = 12 * x + 4 + 4 * s
+-- ---- which region it belongs to
 
 -- the base region of a register, and which of its subregions
 abbrev pub regionOf : Register → ℕ

@@ -2,13 +2,10 @@
 pub mod contents;
 mod forms;
 pub mod guards;
-mod masks;
 pub mod memory;
 pub mod places;
 pub mod port;
 pub mod registers;
-pub mod rights;
-pub mod rules;
 
 pub use contents::Guard;
 pub use contents::Seen;
@@ -16,4 +13,3 @@ pub use contents::Stepped;
 pub use guards::GuardNumber;
 pub use guards::Shape;
 pub use registers::Register;
-pub use rules::Verdict;

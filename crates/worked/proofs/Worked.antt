@@ -19,8 +19,8 @@ use Rattle.risaf.specs.Guards.{isGuard, shapeOf}
 use Rattle.risaf.specs.Registers.{registerAt}
 use Rattle.risaf.specs.Contents.{stored, withStored, seen, reset}
 use Rattle.risaf.specs.Port.{readOf, allowedOf, lockedOf, subcfgrWritten, wordWritten, checksOf, answerOf, written, stepped}
-use Rattle.risaf.specs.Rules.{decided}
-use Rattle.risaf.specs.Rights.{rights}
+use Rattle.regions.specs.Rules.{decided}
+use Rattle.regions.specs.Rights.{rights}
 use Rattle.risaf.specs.Memory.{checksOf as memory-checksOf, answerOf as memory-answerOf, faulted, accessed}
 use Rattle.device.specs.State.{State, place, guardOf, withGuard, resetState}
 use Rattle.device.specs.Step.{registerStep, memoryStep, step}

@@ -4,7 +4,7 @@ use Prim.Native.Nat.{_-_}
 use native.Mathlib.Omega.{arith}
 use denote.Ref.{now}
 use borrow.Author.Needs.{needs}
-use Rattle.risaf.specs.Rights.{rights}
+use Rattle.regions.specs.Rights.{rights}
 use Rattle.spans.specs.Sweep.{boundsOf}
 use Rattle.spans.proofs.Bounds.{next-above}
 use Rattle.spans.proofs.Fill.{Swept, swept-begin, swept-turn, swept-end}

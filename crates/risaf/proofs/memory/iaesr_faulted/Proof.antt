@@ -3,7 +3,7 @@ use native.Mathlib.Omega.{arith}
 use borrow.Author.Needs.{needs}
 use borrow.Author.Tests.{eq-eqb, ne-eqb}
 use mir.Val.{boolByte}
-use Rattle.risaf.proofs.Digits.{byte-most, byte-one}
+use Rattle.regions.proofs.Digits.{byte-most, byte-one}
 use Rattle.risaf.proofs.memory.iaesr_faulted.Statement.{statement}
 use Rattle.risaf.proofs.memory.iaesr_faulted.Tie as tie
 

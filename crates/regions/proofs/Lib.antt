@@ -1,0 +1,7 @@
+pub mod Digits
+pub mod Enough
+pub mod MaskTally
+pub mod RightsBits
+pub mod RightsBytes
+pub mod Steady
+pub mod Tally

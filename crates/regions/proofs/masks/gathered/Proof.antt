@@ -1,0 +1,32 @@
+use mathlib.Core.Path.{_≡_}
+use Prim.Native.Nat.{_≤_, _-_}
+use native.Mathlib.Omega.{arith}
+use borrow.Author.Needs.{needs}
+use Rattle.regions.specs.Masks.{masks}
+use Rattle.regions.proofs.MaskTally.{masks-more}
+use Rattle.regions.proofs.masks.gathered.Statement.{statement}
+use Rattle.regions.proofs.masks.gathered.Tie as tie
+
+abbrev Inv-loop : tie.InvT-loop
+Inv-loop w n o m₀ x₀ m x = (x ≤ n) × (m ≡ masks w x o)
+
+abbrev μ-loop : tie.MeasureT-loop
+μ-loop w n o m₀ x₀ m x = n - x
+
+loop-holds : tie.Need-loop-holds Inv-loop μ-loop
+unfolding masks
+loop-holds c = search needs
+
+loop-again : tie.Need-loop-again Inv-loop μ-loop
+loop-again c = (search needs, masks-more _ _ _ (c .before .before .loop .inv .1) (c .base-gathered .ensures))
+
+returns : tie.Need-returns Inv-loop μ-loop
+returns c =
+    let e : c .before .loop .x ≡ c .before .before .before .args .n = omega arith in
+    cc
+
+pub gathered-spec : {M : Type 1} → statement M
+gathered-spec =
+    tie.close
+    (tie.spec Inv-loop μ-loop loop-holds (λ c κs. search needs) (λ c. search needs) (λ c. search needs) loop-again
+    returns)

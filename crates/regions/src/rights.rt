@@ -1,0 +1,73 @@
+use crate::masks::Masks;
+use crate::masks::gathered;
+ghost use mathlib.Core.Bool.{false, cond};
+ghost use mathlib.Core.Path.{_≡_};
+ghost use Rattle.regions.specs.Lent.{rightsIn};
+ghost use Rattle.regions.specs.Masks.{byteAt, openTo, rightsFrom};
+
+// The compartments with the bit of the direction that are not closed: none where may is false.
+fn open_to(reads: u32, writes: u32, closed: u32, write: bool, may: bool) -> u32
+    ensures { λ r. ⌜ r ≡ openTo reads writes closed write may ⌝ }
+{
+    if !may {
+        return 0;
+    }
+    if write {
+        return (writes & !closed) % 256;
+    }
+    (reads & !closed) % 256
+}
+
+// The compartments that PRIVC closes to an asking.
+fn closed(privc: u32, privileged: bool) -> u32
+    ensures { λ r. ⌜ r ≡ cond privileged 0 privc ⌝ }
+{
+    if privileged {
+        return 0;
+    }
+    privc
+}
+
+// The byte of the rights word for a direction, a privilege and a security, bit c for CID c.
+fn byte(m: Masks, write: bool, privileged: bool, secure: bool) -> u32
+    ensures { λ r. ⌜ r ≡ rightsFrom m (byteAt write privileged secure) 8 ⌝ }
+{
+    if m.counted {
+        let may = (secure == m.secure) & (privileged | !m.privileged);
+        return open_to(m.reads, m.writes, 0, write, may);
+    }
+    if !m.covered {
+        return open_to(0x82, 0x82, 0, write, secure & privileged);
+    }
+    let may = (secure & m.sec) | !(secure | ((m.cfgr >> 8) % 2 == 1));
+    let shut = closed(m.cfgr >> 16, privileged);
+    open_to(m.cidcfgr | 0x80, (m.cidcfgr >> 16) | 0x80, shut, write, may)
+}
+
+// The two bytes of a privilege and a security.
+fn pair(m: Masks, privileged: bool, secure: bool) -> u32
+    ensures { λ r. ⌜ r ≡ rightsFrom m (byteAt false privileged secure) 16 ⌝ }
+{
+    byte(m, true, privileged, secure) * 0x100 + byte(m, false, privileged, secure)
+}
+
+// The four bytes of a security.
+fn half(m: Masks, secure: bool) -> u32
+    ensures { λ r. ⌜ r ≡ rightsFrom m (byteAt false false secure) 32 ⌝ }
+{
+    pair(m, true, secure) * 0x1_0000 + pair(m, false, secure)
+}
+
+// The rights word of an offset, by the words of n base regions: 0 where they are too few.
+pub fn rights_at(w: &[u32], n: usize, o: u32) -> u64
+    ensures { λ r. ⌜ r ≡ rightsIn (now (w .entry)) n o ⌝ }
+{
+    if 11 < n {
+        return 0;
+    }
+    if w.len() < 12 * n {
+        return 0;
+    }
+    let m = gathered(w, n, o);
+    half(m, true) as u64 * 0x1_0000_0000 + half(m, false) as u64
+}

@@ -1,9 +1,0 @@
--- The rights word of an offset: document 01, "rights bit .. is 1 exactly when the rule that governs there grants that kind of asking".
-use mathlib.Core.List.{List}
-use Prim.Native.Nat.{ℕ}
-use Rattle.words.specs.Bit.{word}
-use Rattle.access.specs.Kind.{kindOf}
-use Rattle.risaf.specs.Rules.{decided}
-
-unfoldable pub rights : List ℕ → ℕ → ℕ → ℕ
-rights w n o = word 64 (λ b. decided w n o (kindOf b) .granted)
