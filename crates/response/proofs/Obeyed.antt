@@ -11,8 +11,8 @@ use Rattle.device.specs.declared.event.Event.{Event}
 use Rattle.risaf.specs.declared.guards.GuardNumber.{GuardNumber}
 use Rattle.script.proofs.command.Command.{the-type}
 use Rattle.script.specs.Command.{commandOf}
-use Rattle.script.specs.Parts.{Wrote}
-use Rattle.script.specs.Print.{badLine}
+use Rattle.print.specs.Parts.{Wrote}
+use Rattle.print.specs.Print.{badLine}
 use Rattle.script.specs.declared.command.Command.{Command}
 use Rattle.script.specs.declared.command.Command.the-variants.{Event as AnEvent, Map, Bad}
 use Rattle.response.specs.Response.{answerText, bytesAfter, mapText, most, nextOf, placeAfter, stateAfter, textOf}

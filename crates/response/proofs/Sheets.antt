@@ -18,11 +18,11 @@ use Rattle.device.specs.Layout.{stateOf}
 use Rattle.map.specs.Fill.{fillAnswer, fillUsed, fillNumbers, leastRoom}
 use Rattle.map.specs.Map.{rowsOf}
 use Rattle.map.proofs.Steady.{rows-67}
-use Rattle.script.specs.Fields.{bytes}
-use Rattle.script.specs.Parts.{Wrote}
-use Rattle.script.specs.Print.{guardLine, endLine}
-use Rattle.script.specs.Writing.{written, after}
-use Rattle.script.proofs.Writing.{join}
+use Rattle.print.specs.Bytes.{bytes}
+use Rattle.print.specs.Parts.{Wrote}
+use Rattle.print.specs.Print.{guardLine, endLine}
+use Rattle.print.specs.Writing.{written, after}
+use Rattle.print.proofs.Writing.{join}
 use Rattle.response.specs.Response.{answerText, mapText}
 use Rattle.response.specs.Sheet.{sheet, spanLines}
 use Rattle.response.proofs.Written.{label-most, labelled}

@@ -12,11 +12,11 @@ use Rattle.access.specs.declared.answer.Answer.{Answer}
 use Rattle.access.specs.declared.answer.Answer.the-variants.{Done, Refused, Locked, NoRegister, NoSuch, Misaligned, Outside, Fetch, WrongLength}
 use Rattle.spans.specs.Rows.{Rows, none, more, size, start, end, rights, rowsIn}
 use Rattle.spans.proofs.Memory.{size-rows}
-use Rattle.script.specs.Parts.{Wrote}
-use Rattle.script.specs.Print.{answerLine, labelLine, spanLine}
-use Rattle.script.specs.Writing.{over, written, after}
-use Rattle.script.proofs.Digits.{answer-length, label-length, span-length, width-bound}
-use Rattle.script.proofs.Writing.{join}
+use Rattle.print.specs.Parts.{Wrote}
+use Rattle.print.specs.Print.{answerLine, labelLine, spanLine}
+use Rattle.print.specs.Writing.{over, written, after}
+use Rattle.print.proofs.Digits.{answer-length, label-length, span-length, width-bound}
+use Rattle.print.proofs.Writing.{join}
 use Rattle.response.specs.Response.{answerText, most}
 use Rattle.response.specs.Sheet.{spanLines}
 

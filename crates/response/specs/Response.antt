@@ -13,8 +13,8 @@ use Rattle.device.specs.Applied.{sized, appliedAnswer, appliedState}
 use Rattle.device.specs.Layout.{stateOf}
 use Rattle.map.specs.Map.{rowsOf}
 use Rattle.script.specs.Command.{commandOf}
-use Rattle.script.specs.Print.{answerLine, badLine}
-use Rattle.script.specs.Writing.{over}
+use Rattle.print.specs.Print.{answerLine, badLine}
+use Rattle.print.specs.Writing.{over}
 use Rattle.script.specs.declared.command.Command.{Command}
 use Rattle.script.specs.declared.command.Command.the-variants.{Event, Map, Bad}
 use Rattle.response.specs.Sheet.{sheet}

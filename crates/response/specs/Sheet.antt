@@ -2,7 +2,7 @@
 use mathlib.Core.List.{List, [], _++_}
 use Prim.Native.Nat.{ℕ}
 use Rattle.spans.specs.Rows.{Rows, none, more, size}
-use Rattle.script.specs.Print.{spanLine, guardLine, endLine}
+use Rattle.print.specs.Print.{spanLine, guardLine, endLine}
 
 -- a line for each row
 unfoldable pub spanLines : Rows → List ℕ

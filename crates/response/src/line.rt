@@ -1,16 +1,16 @@
 use crate::sheet::put_answer;
 use crate::sheet::put_map;
 use device::Event;
+use print::print_bad;
 use script::Command;
-use script::print_bad;
 use script::read_line;
 ghost use mathlib.Core.Path.{_≡_};
 ghost use Prim.Native.Nat.{_+_, _≤_};
 ghost use lib.ListN.{length};
 ghost use Rattle.device.specs.Applied.{appliedAnswer, appliedState};
 ghost use Rattle.script.specs.Command.{commandOf};
-ghost use Rattle.script.specs.Parts.{Wrote};
-ghost use Rattle.script.specs.Print.{badLine};
+ghost use Rattle.print.specs.Parts.{Wrote};
+ghost use Rattle.print.specs.Print.{badLine};
 ghost use Rattle.response.specs.Response.{answerText, bytesAfter, most, nextOf, placeAfter, stateAfter, textOf};
 
 // The most bytes that a line prints: the sheet of a map of 67 rows.

@@ -10,7 +10,8 @@ use lib.ListN.{length}
 use Rattle.device.specs.declared.event.Block.{Block}
 use Rattle.device.specs.declared.event.Block.the-variants.{Rifsc, Iac, Risaf}
 use Rattle.script.specs.Command.{blocksOf, byKeyword, numberOr, requestOf, registerOf}
-use Rattle.script.specs.Fields.{bytes, field, same}
+use Rattle.print.specs.Bytes.{bytes}
+use Rattle.script.specs.Fields.{field, same}
 use Rattle.script.specs.Numbers.{decimalOf}
 use Rattle.script.specs.declared.command.Command.{Command}
 use Rattle.script.specs.declared.command.Command.the-variants.{Bad}

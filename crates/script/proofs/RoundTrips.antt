@@ -8,9 +8,9 @@ use native.Mathlib.Omega.{arith}
 use borrow.Author.Tests.{ne-eqb, le-leb, lt-leb, lt-ltb, ltb-true, ltb-false}
 use lib.Dec.{ltb, lit<, lit≤}
 use Rattle.script.specs.Numbers.{isDecimal, isHex, digit, every, valueFrom, unpadded, hexOf, decimalOf}
-use Rattle.script.specs.Print.{character, digitsOf, hexText, widthIn, widthOf, decimalText}
+use Rattle.print.specs.Print.{character, digitsOf, hexText, widthIn, widthOf, decimalText}
 use Rattle.script.specs.declared.numbers.Number.the-variants.{Value}
-use Rattle.script.proofs.Digits.{digits-length, width-one, width-more}
+use Rattle.print.proofs.Digits.{digits-length, width-one, width-more}
 
 -- ---- one digit
 

@@ -9,7 +9,8 @@ use Rattle.device.specs.declared.event.Block.{Block}
 use Rattle.device.specs.declared.event.Block.the-variants.{Rifsc, Iac, Risaf}
 use Rattle.device.specs.declared.event.Operation.{Operation}
 use Rattle.device.specs.declared.event.Event.the-variants.{Reset, Register, Peripheral, Memory, Master}
-use Rattle.script.specs.Fields.{bytes, field, fieldsOf, same}
+use Rattle.print.specs.Bytes.{bytes}
+use Rattle.script.specs.Fields.{field, fieldsOf, same}
 use Rattle.script.specs.Numbers.{hexOf, decimalOf, eitherOf, operationOf}
 use Rattle.script.specs.declared.command.Command.{Command}
 use Rattle.script.specs.declared.command.Command.the-variants.{Event, Map, Bad}

@@ -1,12 +1,12 @@
--- Document 01's sample: two lines read, and what they print.
+-- Document 01's sample: its two lines read.
 use mathlib.Core.Bool.{true, false}
-use mathlib.Core.List.{[], _++_}
+use mathlib.Core.List.{[]}
 use mathlib.Core.Path.{_≡_, refl}
 use Rattle.device.specs.declared.event.Event.the-variants.{Memory}
 use Rattle.script.specs.Command.{commandOf, byKeyword, linesOf, resetOf, blocksOf, requestOf, peripheralOf, memoryOf, masterOf, mapOf, rightsOf, targetOf}
-use Rattle.script.specs.Fields.{bytes, fieldsOf, onto, same}
+use Rattle.print.specs.Bytes.{bytes}
+use Rattle.script.specs.Fields.{fieldsOf, onto, same}
 use Rattle.script.specs.Numbers.{every, valueFrom, hexOf, decimalOf, eitherOf, operationOf}
-use Rattle.script.specs.Print.{digitsOf, widthIn, widthOf, decimalText, answerLine, spanLine, labelLine, guardLine, endLine, badLine}
 use Rattle.script.specs.declared.command.Command.the-variants.{Event, Map, Bad}
 
 -- the two lines of the sample, and lines that are bad: an empty one, a leading zero, an upper-case digit, a field too many
@@ -26,14 +26,3 @@ read : (commandOf (bytes "mem\t2\t00000000\t4\tr\t1\ts\tp")
     × (commandOf (bytes "reset\t") ≡ Bad)
 unfolding commandOf byKeyword linesOf resetOf blocksOf requestOf peripheralOf memoryOf masterOf mapOf rightsOf targetOf fieldsOf onto same every valueFrom hexOf decimalOf eitherOf operationOf
 read = (refl, refl, refl, refl, refl, refl)
-
--- the whole output
-sample : answerLine 0 0 ++ guardLine 2 ++ spanLine 0 0x000f_ffff 0x8282_0000_0000_0000 ++ endLine 1
-    ≡ bytes "ans\t0\t00000000\nguard\t2\nspan\t00000000\t000fffff\t8282000000000000\nend\t1\n"
-unfolding answerLine labelLine spanLine decimalText digitsOf widthOf widthIn
-sample = refl
-
--- lines count past 2^32
-bad : badLine 18446744073709551615 ≡ bytes "bad\t18446744073709551615\n"
-unfolding labelLine decimalText digitsOf widthOf widthIn
-bad = refl

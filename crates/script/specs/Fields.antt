@@ -1,17 +1,10 @@
 -- A line's fields: document 01, "fields parted by tabs".
 use Prim.Native.Char.{code}
-use Prim.Native.String
-use Prim.Native.String.{String}
 use mathlib.Core.Bool.{Bool, true, false, _&&_, cond}
 use mathlib.Core.List.{List, [], _∷_}
 use Prim.Native.Nat.{ℕ}
 use lib.Dec.{eqb}
 use lib.ListN.{getD}
-
--- the bytes of an ASCII text
-abbrev pub bytes : String → List ℕ
-bytes String.[] = []
-bytes (String._∷_ c s) = code c ∷ bytes s
 
 abbrev pub tab : ℕ
 tab = code "\t"

@@ -1,14 +1,8 @@
-// A line of text as a command, and answers and maps as text.
+// A line of text as a command.
 pub mod command;
 pub mod events;
 pub mod fields;
 pub mod numbers;
-pub mod print;
 
 pub use command::Command;
 pub use command::read_line;
-pub use print::print_answer;
-pub use print::print_bad;
-pub use print::print_end;
-pub use print::print_guard;
-pub use print::print_span;

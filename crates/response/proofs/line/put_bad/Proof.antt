@@ -1,7 +1,7 @@
 -- `response::line::put_bad` meets its contract: there is room for the line.
 use borrow.Author.Needs.{needs}
 use native.Mathlib.Omega.{arith}
-use Rattle.script.specs.Fields.{bytes}
+use Rattle.print.specs.Bytes.{bytes}
 use Rattle.response.proofs.Written.{labelled}
 use Rattle.response.proofs.line.put_bad.Statement.{statement}
 use Rattle.response.proofs.line.put_bad.Tie as tie

@@ -4,7 +4,7 @@ use native.Mathlib.Omega.{arith}
 use mathlib.Core.Path.{_≡_, refl, _∙_}
 use Prim.Native.Nat.{_≤_, _-_}
 use lib.ListN.{length}
-use Rattle.script.specs.Parts.{Wrote}
+use Rattle.print.specs.Parts.{Wrote}
 use Rattle.spans.specs.Rows.{rowsIn}
 use Rattle.response.specs.Sheet.{spanLines}
 use Rattle.response.proofs.Written.{no-rows, one-row, rows-length, same-count}

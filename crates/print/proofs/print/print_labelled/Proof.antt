@@ -1,11 +1,11 @@
--- `script::print::print_labelled` meets its contract: its parts, one after the other, are the line.
+-- `print::print::print_labelled` meets its contract: its parts, one after the other, are the line.
 use borrow.Author.Needs.{needs}
 use native.Mathlib.Omega.{arith}
-use Rattle.script.specs.Print.{decimalText, labelLine}
-use Rattle.script.proofs.Digits.{label-length}
-use Rattle.script.proofs.Writing.{join, refused, whole}
-use Rattle.script.proofs.print.print_labelled.Statement.{statement}
-use Rattle.script.proofs.print.print_labelled.Tie as tie
+use Rattle.print.specs.Print.{decimalText, labelLine}
+use Rattle.print.proofs.Digits.{label-length}
+use Rattle.print.proofs.Writing.{join, refused, whole}
+use Rattle.print.proofs.print.print_labelled.Statement.{statement}
+use Rattle.print.proofs.print.print_labelled.Tie as tie
 
 returns : tie.Need-returns
 returns c =

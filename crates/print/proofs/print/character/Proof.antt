@@ -1,8 +1,8 @@
--- `script::print::character` meets its contract.
+-- `print::print::character` meets its contract.
 use borrow.Author.Needs.{needs}
 use borrow.Author.Tests.{le-ltb, lt-ltb}
-use Rattle.script.proofs.print.character.Statement.{statement}
-use Rattle.script.proofs.print.character.Tie as tie
+use Rattle.print.proofs.print.character.Statement.{statement}
+use Rattle.print.proofs.print.character.Tie as tie
 
 returns : tie.Need-returns
 returns c = rw (lt-ltb (c .before .args .d) 10 (c .if1 .taken))

@@ -1,4 +1,4 @@
--- `script::print::put` meets its contract. A turn's store is lib.Seq's `paste-suc`.
+-- `print::print::put` meets its contract. A turn's store is lib.Seq's `paste-suc`.
 use borrow.Author.Needs.{needs}
 use mathlib.Core.Path.{_≡_, refl, ap, _∙_}
 use mathlib.Core.List.{List}
@@ -7,9 +7,9 @@ use native.Mathlib.Numerals.{add-one}
 use native.Mathlib.Omega.{arith}
 use lib.ListN.{length, getD, set, length-set}
 use lib.Seq.{paste, paste-zero, paste-suc}
-use Rattle.script.proofs.Writing.{copied}
-use Rattle.script.proofs.print.put.Statement.{statement}
-use Rattle.script.proofs.print.put.Tie as tie
+use Rattle.print.proofs.Writing.{copied}
+use Rattle.print.proofs.print.put.Statement.{statement}
+use Rattle.print.proofs.print.put.Tie as tie
 
 abbrev Inv-loop : tie.InvT-loop
 Inv-loop out₀ at bytes i₀ out i = (i ≤ length bytes) × (length out ≡ length out₀) × (out ≡ paste out₀ at bytes i)

@@ -3,7 +3,7 @@ ghost use mathlib.Core.List.{[], _∷_, _++_};
 ghost use mathlib.Core.Path.{_≡_};
 ghost use Prim.Native.Nat.{_+_, _≤_, _<_};
 ghost use lib.ListN.{length};
-ghost use Rattle.script.specs.Print.{
+ghost use Rattle.print.specs.Print.{
   answerLine,
   badLine,
   character,
@@ -15,8 +15,8 @@ ghost use Rattle.script.specs.Print.{
   spanLine,
   widthOf,
 };
-ghost use Rattle.script.specs.Writing.{after, written};
-ghost use Rattle.script.specs.Parts.{Wrote};
+ghost use Rattle.print.specs.Writing.{after, written};
+ghost use Rattle.print.specs.Parts.{Wrote};
 
 // Writes the bytes from `at` on. The place after them.
 fn put(out: &mut [u8], at: usize, bytes: &[u8]) -> usize

@@ -4,7 +4,7 @@ use mathlib.Core.Bool.{cond}
 use mathlib.Core.List.{List, [], _∷_, _++_}
 use Prim.Native.Nat.{ℕ, zero, suc, _+_, _-_, _/_, _%_}
 use lib.Dec.{ltb}
-use Rattle.script.specs.Fields.{bytes}
+use Rattle.print.specs.Bytes.{bytes}
 
 -- ---- numbers
 

@@ -1,12 +1,12 @@
--- `script::print::width` meets its contract: the digits counted and those left are all of them.
+-- `print::print::width` meets its contract: the digits counted and those left are all of them.
 use borrow.Author.Needs.{needs}
 use mathlib.Core.Path.{_≡_}
 use Prim.Native.Nat.{_+_, _≤_}
 use native.Mathlib.Omega.{arith}
-use Rattle.script.specs.Print.{widthOf}
-use Rattle.script.proofs.Digits.{width-one, width-more, width-bound}
-use Rattle.script.proofs.print.width.Statement.{statement}
-use Rattle.script.proofs.print.width.Tie as tie
+use Rattle.print.specs.Print.{widthOf}
+use Rattle.print.proofs.Digits.{width-one, width-more, width-bound}
+use Rattle.print.proofs.print.width.Statement.{statement}
+use Rattle.print.proofs.print.width.Tie as tie
 
 abbrev Inv-loop : tie.InvT-loop
 Inv-loop n m₀ k₀ m k = (k + widthOf m ≡ widthOf n + 1) × (widthOf n ≤ 20)

@@ -1,11 +1,11 @@
--- `script::print::put_digits` meets its contract: the digits written, with those left, are all of them.
+-- `print::print::put_digits` meets its contract: the digits written, with those left, are all of them.
 use borrow.Author.Needs.{needs}
 use native.Mathlib.Nat.{mod-lt}
 use native.Mathlib.Omega.{arith}
 use lib.ListN.{length-set}
-use Rattle.script.proofs.Digits.{Left, all-left, one-less, none-left}
-use Rattle.script.proofs.print.put_digits.Statement.{statement}
-use Rattle.script.proofs.print.put_digits.Tie as tie
+use Rattle.print.proofs.Digits.{Left, all-left, one-less, none-left}
+use Rattle.print.proofs.print.put_digits.Statement.{statement}
+use Rattle.print.proofs.print.put_digits.Tie as tie
 
 abbrev Inv-loop : tie.InvT-loop
 Inv-loop out₀ at base n count end m₀ k₀ out m k = Left base out₀ at n count out m k

@@ -9,9 +9,9 @@ use borrow.Author.Tests.{lt-ltb, le-ltb, ltb-true, ltb-false}
 use lib.Dec.{ltb}
 use lib.ListN.{length, take, drop, set, length-append, length-set, take-append-drop}
 use lib.Seq.{take-set-le, drop-set-lt, drop-cons, getD-set-same, append-snoc}
-use Rattle.script.specs.Parts.{Wrote}
-use Rattle.script.specs.Print.{character, digitsOf, widthIn, widthOf, decimalText, answerLine, spanLine, labelLine}
-use Rattle.script.proofs.Writing.{join, one}
+use Rattle.print.specs.Parts.{Wrote}
+use Rattle.print.specs.Print.{character, digitsOf, widthIn, widthOf, decimalText, answerLine, spanLine, labelLine}
+use Rattle.print.proofs.Writing.{join, one}
 
 pub digits-length : (base k n : ℕ) → length (digitsOf base k n) ≡ k
 unfolding digitsOf

@@ -1,0 +1,5 @@
+pub mod Bytes
+pub mod Examples
+pub mod Parts
+pub mod Print
+pub mod Writing

@@ -1,0 +1,8 @@
+// Answers and maps as text.
+pub mod print;
+
+pub use print::print_answer;
+pub use print::print_bad;
+pub use print::print_end;
+pub use print::print_guard;
+pub use print::print_span;
