@@ -2,9 +2,10 @@
 use mathlib.Core.Bool.{Bool, true, false, _&&_, cond}
 use mathlib.Core.List.{List, _∷_}
 use mathlib.Core.Path.{_≡_, refl, sym, ap, _∙_}
-use Prim.Native.Nat.{ℕ, _+_, _≤_, _<_}
+use Prim.Native.Nat.{ℕ, _+_, _-_, _≤_, _<_}
+use native.Mathlib.Nat.{add-sub-cancel-left}
 use native.Mathlib.Omega.{arith}
-use lib.ListN.{length, getD, set, length-set}
+use lib.ListN.{length, getD, set, take, drop, length-set}
 use lib.Seq.{getD-set-same, getD-set-other}
 use Rattle.words.specs.Bit.{withBit}
 use Rattle.access.specs.declared.answer.Answer.{Answer}
@@ -20,6 +21,7 @@ use Rattle.risaf.specs.Registers.{registerAt, writable, readable}
 use Rattle.risaf.specs.declared.contents.Guard.{Guard}
 use Rattle.risaf.specs.declared.contents.Seen.{Seen}
 use Rattle.risaf.specs.declared.guards.GuardNumber.{GuardNumber}
+use Rattle.risaf.specs.declared.guards.Shape.{Shape}
 use Rattle.risaf.specs.declared.registers.Register.{Register}
 use Rattle.device.specs.InPlace.{isDone, isRefused}
 use Rattle.device.specs.Layout.{stateWords, part, guardWords, guardFrom, stateOf}
@@ -91,53 +93,75 @@ module _ (m : List ℕ) (n : GuardNumber) (l : length m ≡ stateWords) where
       by true h = rw (eb, h) (guard-fits (n .0) h)
       by false h = rw (eb, h) (omega arith)
 
-  module _ (q : Request) {there : Bool} {b : ℕ} {reg : Register} {v : Seen} (eg : there ≡ isGuard (n .0))
-      (eb : b ≡ cond (isGuard (n .0)) (guardPlace (n .0)) 45) (er : reg ≡ registerAt (shapeOf (n .0) .regions) (q .offset))
-      (ev : v ≡ seenIn (part b 136 m) reg) where
-    seen-here : isGuard (n .0) ≡ true → v ≡ seen (guardOf (stateOf m) (n .0)) reg
-    seen-here h =
-        let at : b ≡ guardPlace (n .0) = eb ∙ rw h in
-        ev ∙ rw at
-        (ap (λ (w : List ℕ). seenIn w reg) (sym (guard-words (guardPlace (n .0)) m (omega (arith, guard-fits (n .0) h))))
-        ∙ seen-words (guardFrom (guardPlace (n .0)) m) (regions-length m (guardPlace (n .0)) (omega (arith, guard-fits (n .0) h))) reg ∙ ap (λ (g : Guard). seen g reg) (sym (guard-of m (n .0) h)))
+-- what the calls up to the answer give: where the guard's words begin, the register, what is seen there, the answer
+pub record Asked (m : List ℕ) (n : GuardNumber) (q : Request) (b : ℕ) (reg : Register) (v : Seen) (a : Answer) : Type 0 where
+  pub long : length m ≡ stateWords
+  pub base : b ≡ cond (isGuard (n .0)) (guardPlace (n .0)) 45
+  pub register : reg ≡ registerAt (shapeOf (n .0) .regions) (q .offset)
+  pub view : v ≡ seenIn (part b 136 m) reg
+  pub answer : a ≡ answerOf (isGuard (n .0)) reg v q
 
-    none : (r : Register) (w : Seen) → isGuard (n .0) ≡ false → answerOf (isGuard (n .0)) r w q ≡ NoSuch
-    unfolding answerOf checksOf
-    none r w h = absent _ _ h
+pub asked : (m : List ℕ) (n : GuardNumber) (q : Request) {b : ℕ} {shape : Shape} {reg : Register} {v : Seen} {there : Bool} {a : Answer}
+    → length m ≡ stateWords → b ≡ cond (isGuard (n .0)) (guardPlace (n .0)) 45 → shape ≡ shapeOf (n .0)
+    → reg ≡ registerAt (shape .regions) (q .offset) → v ≡ seenIn (take (b + 136 - b) (drop b m)) reg → there ≡ isGuard (n .0)
+    → a ≡ answerOf there reg v q → Asked m n q b reg v a
+asked m n q {b} {shape} {reg} {v} l eb es er ev eg ea =
+    record {
+      long = l;
+      base = eb;
+      register = er ∙ ap (λ (x : Shape). registerAt (x .regions) (q .offset)) es;
+      view = ev ∙ ap (λ (k : ℕ). seenIn (take k (drop b m)) reg) (add-sub-cancel-left b 136);
+      answer = ea ∙ ap (λ (t : Bool). answerOf t reg v q) eg;
+    }
 
-    pub guard-answer : {a : Answer} → a ≡ answerOf there reg v q → a ≡ registerStep (Risaf n) q (stateOf m) .answer
-    unfolding registerStep stepped
-    guard-answer ea = ea ∙ rw eg (by (isGuard (n .0)) refl)
-      where
-        by : (t : Bool) → isGuard (n .0) ≡ t
-            → answerOf (isGuard (n .0)) reg v q
-            ≡ answerOf (isGuard (n .0)) (registerAt (shapeOf (n .0) .regions) (q .offset))
-            (seen (guardOf (stateOf m) (n .0)) (registerAt (shapeOf (n .0) .regions) (q .offset))) q
-        by true h = ap (λ (w : Seen). answerOf (isGuard (n .0)) reg w q) (seen-here h) ∙ rw er
-        by false h = none reg v h ∙ sym (none _ _ h)
+module _ {m : List ℕ} {n : GuardNumber} {q : Request} {b : ℕ} {reg : Register} {v : Seen} {a : Answer} (k : Asked m n q b reg v a) where
+  seen-here : isGuard (n .0) ≡ true → v ≡ seen (guardOf (stateOf m) (n .0)) reg
+  seen-here h =
+      let l = k .long in
+      let at : b ≡ guardPlace (n .0) = k .base ∙ rw h in
+      k .view ∙ rw at
+      (ap (λ (w : List ℕ). seenIn w reg) (sym (guard-words (guardPlace (n .0)) m (omega (arith, guard-fits (n .0) h))))
+      ∙ seen-words (guardFrom (guardPlace (n .0)) m) (regions-length m (guardPlace (n .0)) (omega (arith, guard-fits (n .0) h))) reg ∙ ap (λ (g : Guard). seen g reg) (sym (guard-of m (n .0) h)))
 
-    -- what is refused is there
-    pub refused-there : {a : Answer} → a ≡ answerOf there reg v q → isRefused a ≡ true → isGuard (n .0) ≡ true
-    unfolding answerOf checksOf
-    refused-there ea r = sym eg ∙ refused-present _ _ (sym (ap isRefused ea) ∙ r)
+  none : (r : Register) (w : Seen) → isGuard (n .0) ≡ false → answerOf (isGuard (n .0)) r w q ≡ NoSuch
+  unfolding answerOf checksOf
+  none r w h = absent _ _ h
 
-    -- done: there is such a guard, and a register that is written can be
-    pub done-guard : {a : Answer} → a ≡ answerOf there reg v q → isDone a ≡ true → isGuard (n .0) ≡ true
-    unfolding answerOf checksOf
-    done-guard ea d = sym eg ∙ done-checks _ _ (sym (ap isDone ea) ∙ d) .0
+  pub guard-answer : a ≡ registerStep (Risaf n) q (stateOf m) .answer
+  unfolding registerStep stepped
+  guard-answer = k .answer ∙ by (isGuard (n .0)) refl
+    where
+      by : (t : Bool) → isGuard (n .0) ≡ t
+          → answerOf (isGuard (n .0)) reg v q
+          ≡ answerOf (isGuard (n .0)) (registerAt (shapeOf (n .0) .regions) (q .offset))
+          (seen (guardOf (stateOf m) (n .0)) (registerAt (shapeOf (n .0) .regions) (q .offset))) q
+      by true h = ap (λ (w : Seen). answerOf (isGuard (n .0)) reg w q) (seen-here h) ∙ rw (k .register)
+      by false h = none reg v h ∙ sym (none _ _ h)
 
-    pub done-writable : {a : Answer} → a ≡ answerOf there reg v q → isDone a ≡ true → q .write ≡ true → writable reg ≡ true
-    unfolding answerOf checksOf
-    done-writable ea d w = sym (ap (λ (t : Bool). cond t (writable reg) (readable reg)) w) ∙ done-checks _ _ (sym (ap isDone ea) ∙ d) .1
+  -- what is refused is there
+  pub refused-there : isRefused a ≡ true → isGuard (n .0) ≡ true
+  unfolding answerOf checksOf
+  refused-there r = refused-present _ _ (sym (ap isRefused (k .answer)) ∙ r)
 
-    pub guard-effect : {x : ℕ} → isGuard (n .0) ≡ true → writable reg ≡ true → q .write ≡ true → x ≡ wordWritten reg v (q .value) (q .secure)
-        → stateOf (set m (b + placeOf reg) x) ≡ registerEffect (Risaf n) q (stateOf m)
-    unfolding registerEffect written
-    guard-effect {x} h w wr ex =
-        let at : b ≡ guardPlace (n .0) = eb ∙ rw h in
-        let word : x ≡ wordWritten reg (seen (guardOf (stateOf m) (n .0)) reg) (q .value) (q .secure) = ex ∙ rw (seen-here h) in
-        rw at
-        (guard-state m (n .0) (placeOf reg) x h (place-lt reg)
-        ∙ ap (withGuard (stateOf m) (n .0))
-        (stored-here m (guardPlace (n .0)) reg x (omega (arith, guard-fits (n .0) h)) (rw er (bounded (shapeOf (n .0) .regions) (q .offset) (regions-most (n .0)))) w
-        ∙ ap (λ (g : Guard). withStored g reg x) (sym (guard-of m (n .0) h)) ∙ rw (word, er, wr)))
+  -- done: there is such a guard, and a register that is written can be
+  done-guard : isDone a ≡ true → isGuard (n .0) ≡ true
+  unfolding answerOf checksOf
+  done-guard d = done-checks _ _ (sym (ap isDone (k .answer)) ∙ d) .0
+
+  done-writable : isDone a ≡ true → q .write ≡ true → writable reg ≡ true
+  unfolding answerOf checksOf
+  done-writable d w = sym (ap (λ (t : Bool). cond t (writable reg) (readable reg)) w) ∙ done-checks _ _ (sym (ap isDone (k .answer)) ∙ d) .1
+
+  pub guard-effect : {x : ℕ} → isDone a ≡ true → q .write ≡ true → x ≡ wordWritten reg v (q .value) (q .secure)
+      → stateOf (set m (b + placeOf reg) x) ≡ registerEffect (Risaf n) q (stateOf m)
+  unfolding registerEffect written
+  guard-effect {x} d wr ex =
+      let l = k .long in
+      let h = done-guard d in
+      let at : b ≡ guardPlace (n .0) = k .base ∙ rw h in
+      let word : x ≡ wordWritten reg (seen (guardOf (stateOf m) (n .0)) reg) (q .value) (q .secure) = ex ∙ rw (seen-here h) in
+      rw at
+      (guard-state m (n .0) (placeOf reg) x h (place-lt reg)
+      ∙ ap (withGuard (stateOf m) (n .0))
+      (stored-here m (guardPlace (n .0)) reg x (omega (arith, guard-fits (n .0) h)) (rw (k .register) (bounded (shapeOf (n .0) .regions) (q .offset) (regions-most (n .0)))) (done-writable d wr)
+      ∙ ap (λ (g : Guard). withStored g reg x) (sym (guard-of m (n .0) h)) ∙ rw (word, k .register, wr)))
