@@ -1,2 +1,3 @@
 pub mod Digits
+pub mod Distinct
 pub mod Writing

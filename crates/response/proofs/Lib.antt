@@ -1,3 +1,4 @@
-pub mod Written
-pub mod Sheets
 pub mod Obeyed
+pub mod SameSheet
+pub mod Sheets
+pub mod Written
