@@ -1,8 +1,8 @@
 use crate::sheet::put_answer;
 use crate::sheet::put_map;
 use device::Event;
-use print::print_bad;
 use script::Command;
+use script::print_bad;
 use script::read_line;
 ghost use mathlib.Core.Path.{_≡_};
 ghost use Prim.Native.Nat.{_+_, _≤_};

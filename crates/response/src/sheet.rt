@@ -1,9 +1,9 @@
 use access::Answer;
-use print::print_answer;
-use print::print_end;
-use print::print_guard;
-use print::print_span;
 use risaf::GuardNumber;
+use script::print_answer;
+use script::print_end;
+use script::print_guard;
+use script::print_span;
 ghost use mathlib.Core.Path.{_≡_};
 ghost use Prim.Native.Nat.{_+_, _*_, _≤_};
 ghost use lib.ListN.{length};

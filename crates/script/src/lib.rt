@@ -1,4 +1,4 @@
-// A line of text as a command.
+// A line of text as a command, and, from the crate `print`, answers and maps as text.
 pub mod command;
 pub mod events;
 pub mod fields;
@@ -6,3 +6,8 @@ pub mod numbers;
 
 pub use command::Command;
 pub use command::read_line;
+pub use print::print_answer;
+pub use print::print_bad;
+pub use print::print_end;
+pub use print::print_guard;
+pub use print::print_span;

@@ -1,6 +1,6 @@
 use libc::STDOUT_FILENO;
-use print::print_bad;
 use response::respond;
+use script::print_bad;
 
 // How far the output has been filled, and whether all before could be written.
 pub struct Filled {
