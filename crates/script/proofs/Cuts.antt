@@ -8,7 +8,7 @@ use native.Mathlib.Omega.{arith}
 use borrow.Author.Tests.{eq-eqb, ne-eqb}
 use lib.Dec.{eqb}
 use lib.ListN.{length, getD, take, drop, set, length-append, length-set, length-take, drop-of-length-le}
-use lib.Seq.{drop-cons, take-suc-set, take-set-le, append-snoc, getD-take, length-take-le}
+use lib.Seq.{drop-cons, take-suc-set, append-snoc, getD-take, length-take-le}
 use Rattle.script.specs.Fields.{tab, onto, fieldsOf, field}
 use Rattle.script.specs.Starts.{startsFrom, Cut}
 
@@ -120,11 +120,10 @@ unfolding startsFrom
 pass-tab line table n i h m e =
     rw (add-one n, add-one i, drop-cons line i 0, take-suc-set, append-snoc) (rw (eq-eqb (getD line i 0) tab e))
 
-pub pass-other : (line table : List ℕ) (n i v : ℕ) → i < length line → (getD line i 0 ≡ 9 → ⊥)
-    → filled line (set table n v) n (i + 1) ≡ filled line table n i
+pub pass-other : (line table : List ℕ) (n i : ℕ) → i < length line → (getD line i 0 ≡ 9 → ⊥)
+    → filled line table n (i + 1) ≡ filled line table n i
 unfolding startsFrom
-pass-other line table n i v h e =
-    rw (add-one, drop-cons line i 0, take-set-le n table n v (omega arith)) (rw (ne-eqb (getD line i 0) tab e))
+pass-other line table n i h e = rw (add-one, drop-cons line i 0) (rw (ne-eqb (getD line i 0) tab e))
 
 pub pass-end : (line table : List ℕ) (n i : ℕ) → i ≤ length line → length line ≤ i → n < 66 → length table ≡ 66
     → filled line table n i ≡ 0 ∷ startsFrom 0 line → (n ≡ length (fieldsOf line)) × Cut line (set table n (i + 1))

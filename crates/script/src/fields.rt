@@ -13,8 +13,8 @@ pub(crate) fn cut(line: &[u8], starts: &mut [u8; 66]) -> usize
     let mut n = 1;
     let mut i = 0;
     while i < line.len() {
-        starts[n] = (i + 1) as u8;
         if line[i] == b'\t' {
+            starts[n] = (i + 1) as u8;
             n += 1;
         }
         i += 1;

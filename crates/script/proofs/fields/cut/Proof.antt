@@ -40,17 +40,17 @@ loop-again c =
     ⊎-elim
     (λ w. (
       omega arith,
-      omega (arith, w .1),
-      omega (arith, w .1),
-      length-set (l .starts) (l .n) (l .i + 1) ∙ l .inv .3,
-      rw (w .1) (pass-tab line (l .starts) (l .n) (l .i) (omega arith) (omega arith) (w .0 .taken) ∙ l .inv .4),
+      omega (arith, w .2),
+      omega (arith, w .2),
+      ap length (w .1) ∙ length-set (l .starts) (l .n) (l .i + 1) ∙ l .inv .3,
+      rw (w .1, w .2) (pass-tab line (l .starts) (l .n) (l .i) (omega arith) (omega arith) (w .0 .taken) ∙ l .inv .4),
     ))
     (λ w. (
       omega arith,
-      omega (arith, w .1),
-      omega (arith, w .1),
-      length-set (l .starts) (l .n) (l .i + 1) ∙ l .inv .3,
-      rw (w .1) (pass-other line (l .starts) (l .n) (l .i) (l .i + 1) (omega arith) (w .0 .left) ∙ l .inv .4),
+      omega (arith, w .2),
+      omega (arith, w .2),
+      ap length (w .1) ∙ l .inv .3,
+      rw (w .1, w .2) (pass-other line (l .starts) (l .n) (l .i) (omega arith) (w .0 .left) ∙ l .inv .4),
     ))
     (c .if1 .came)
 
