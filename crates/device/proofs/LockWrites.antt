@@ -8,7 +8,7 @@ use lib.Dec.{lit<, lit≤}
 use lib.ListN.{getD, set}
 use borrow.Author.Tests.{not-true}
 use Rattle.words.specs.Bit.{bit, merged}
-use Rattle.words.specs.Laws.{bit-word, bit-merged}
+use Rattle.words.proofs.Laws.{bit-word, bit-merged}
 use Rattle.access.specs.Answer.{numberOf}
 use Rattle.access.specs.Checks.{unless, answered}
 use Rattle.access.specs.declared.answer.Answer.{Answer}

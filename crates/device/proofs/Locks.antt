@@ -9,7 +9,7 @@ use lib.Dec.{lit<}
 use lib.ListN.{getD, replicate, List·getD-map}
 use lib.Seq.{getD-append-add}
 use Rattle.words.specs.Bit.{bit}
-use Rattle.words.specs.Laws.{bit-high, bit-zero}
+use Rattle.words.proofs.Laws.{bit-high, bit-zero}
 use Rattle.access.specs.declared.answer.Answer.the-variants.{Done}
 use Rattle.access.specs.declared.request.Request.{Request}
 use Rattle.rifsc.specs.Contents as rifsc-contents

@@ -9,8 +9,8 @@ use lib.Pow.{pow-pos}
 use lib.Seq.{set-getD}
 use borrow.Author.Tests.{ne-eqb}
 use Rattle.words.specs.Bit.{bit, one, word, masked}
-use Rattle.words.specs.Laws.{bit-masked}
-use Rattle.words.specs.Masks.{masked-by}
+use Rattle.words.proofs.Laws.{bit-masked}
+use Rattle.words.proofs.Masks.{masked-by}
 use Rattle.access.specs.Fold.{any}
 use Rattle.iac.specs.Registers.{iisr}
 use Rattle.iac.specs.Contents.{withIsr}

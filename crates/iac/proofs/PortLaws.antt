@@ -7,7 +7,7 @@ use lib.Dec.{eqb}
 use types.Run.{OneOf, miss}
 use denote.Enum.Declared.{tagOf}
 use Rattle.words.specs.Bit.{masked, less}
-use Rattle.words.specs.Masks.{less-masked}
+use Rattle.words.proofs.Masks.{less-masked}
 use Rattle.access.proofs.answer.Answer.{the-type}
 use Rattle.access.specs.Answer.{left}
 use Rattle.access.specs.Checks.{answered}

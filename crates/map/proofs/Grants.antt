@@ -6,7 +6,7 @@ use native.Mathlib.Omega.{arith}
 use lib.Dec.{eqb}
 use borrow.Author.Tests.{eq-eqb, le-leb, lt-ltb}
 use Rattle.words.specs.Bit.{bit}
-use Rattle.words.specs.Laws.{word-cong}
+use Rattle.words.proofs.Laws.{word-cong}
 use Rattle.access.specs.Answer.{numberOf}
 use Rattle.access.specs.Checks.{unless, answered}
 use Rattle.access.specs.Kind.{kindOf, placeOf}

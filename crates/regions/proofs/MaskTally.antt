@@ -10,8 +10,8 @@ use lib.Dec.{eqb}
 use lib.ListN.{getD}
 use borrow.Author.Tests.{eqb-true, eqb-false, eq-eqb, ne-eqb}
 use Rattle.words.specs.Bit.{bit}
-use Rattle.words.specs.Laws.{bit-zero, bit-ones, bit-pow}
-use Rattle.words.specs.Ops.{bit-and, bit-or}
+use Rattle.words.proofs.Laws.{bit-zero, bit-ones, bit-pow}
+use Rattle.words.proofs.Ops.{bit-and, bit-or}
 use Rattle.access.specs.declared.kind.Kind.{Kind}
 use Rattle.regions.specs.Words.{base, sub}
 use Rattle.regions.specs.Rules.{covers, debugger, srcid, workingSec, workingPriv}

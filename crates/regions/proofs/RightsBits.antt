@@ -6,7 +6,7 @@ use Prim.Native.Nat.{ℕ, _/_, _%_, _^_, _≤_, _<_}
 use native.Mathlib.Omega.{arith}
 use lib.Dec.{eqb}
 use Rattle.words.specs.Bit.{bit, one}
-use Rattle.words.specs.Laws.{bit-word}
+use Rattle.words.proofs.Laws.{bit-word}
 use Rattle.access.specs.Kind.{kindOf, placeOf}
 use Rattle.access.specs.declared.kind.Kind.{Kind}
 use Rattle.regions.specs.Rights.{rights}

@@ -10,8 +10,8 @@ use lib.Bits.{bitAnd, bitOr}
 use lib.Dec.{eqb}
 use lib.Pow.{pow-add}
 use Rattle.words.specs.Bit.{bit, one, word}
-use Rattle.words.specs.Laws.{bit-mod, bit-pow, bit-shr, bit-word, bit-zero, word-cong, word-ext, word-lt, word-zero}
-use Rattle.words.specs.Ops.{bit-and, bit-not, bit-or}
+use Rattle.words.proofs.Laws.{bit-mod, bit-pow, bit-shr, bit-word, bit-zero, word-cong, word-ext, word-lt, word-zero}
+use Rattle.words.proofs.Ops.{bit-and, bit-not, bit-or}
 use Rattle.access.specs.Kind.{kindOf, placeOf}
 use Rattle.access.specs.declared.kind.Kind.{Kind}
 use Rattle.regions.specs.Masks.{masks, tallyOf, rightsFrom, byteAt, openTo}

@@ -3,7 +3,7 @@ use mathlib.Core.List.{List}
 use mathlib.Core.Path.{_≡_, refl, sym, ap, _∙_}
 use Prim.Native.Nat.{ℕ, zero, suc, _<_}
 use native.Mathlib.Omega.{arith}
-use Rattle.words.specs.Laws.{word-cong}
+use Rattle.words.proofs.Laws.{word-cong}
 use Rattle.access.specs.Kind.{kindOf}
 use Rattle.access.specs.declared.kind.Kind.{Kind}
 use Rattle.regions.specs.Words.{base, sub}

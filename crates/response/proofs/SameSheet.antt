@@ -9,7 +9,7 @@ use native.Mathlib.Omega.{arith}
 use borrow.Author.Tests.{eq-eqb}
 use lib.Dec.{eqb}
 use lib.ListN.{length, length-append}
-use Rattle.words.specs.Laws.{word-lt}
+use Rattle.words.proofs.Laws.{word-lt}
 use Rattle.access.specs.Kind.{kindOf}
 use Rattle.regions.specs.Rights.{rights}
 use Rattle.regions.specs.Rules.{decided}

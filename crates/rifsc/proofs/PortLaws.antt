@@ -7,8 +7,8 @@ use lib.Dec.{eqb}
 use types.Run.{OneOf, miss}
 use denote.Enum.Declared.{tagOf}
 use Rattle.words.specs.Bit.{bit, word, masked, less, merged, united}
-use Rattle.words.specs.Laws.{bit-less}
-use Rattle.words.specs.Masks.{united-masked, merged-less, merged-by}
+use Rattle.words.proofs.Laws.{bit-less}
+use Rattle.words.proofs.Masks.{united-masked, merged-less, merged-by}
 use Rattle.access.proofs.answer.Answer.{the-type}
 use Rattle.access.specs.Answer.{left}
 use Rattle.access.specs.Checks.{answered}

@@ -6,8 +6,8 @@ use Prim.Native.Nat.{ℕ, _%_, _<_}
 use lib.Dec.{eqb}
 use borrow.Author.Tests.{eqb-true, ne-eqb}
 use Rattle.words.specs.Bit.{bit, word, masked, less, merged, united, withBit}
-use Rattle.words.specs.Laws.{bit-withBit}
-use Rattle.words.specs.Masks.{cond-or, less-masked, merged-by, united-masked}
+use Rattle.words.proofs.Laws.{bit-withBit}
+use Rattle.words.proofs.Masks.{cond-or, less-masked, merged-by, united-masked}
 use Rattle.access.specs.Checks.{answered}
 use Rattle.access.specs.declared.answer.Answer.{Answer}
 use Rattle.access.specs.declared.checks.Checks.{Checks}

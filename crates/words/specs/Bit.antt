@@ -1,5 +1,5 @@
 -- Bits of a number, and numbers made of bits. n is the width of a word: 32 for a u32, 64 for a u64.
-use mathlib.Core.Bool.{Bool, true, false, not, _&&_, _||_, cond, xor}
+use mathlib.Core.Bool.{Bool, true, false, not, _&&_, _||_, cond}
 use Prim.Native.Nat.{ℕ, zero, suc, _+_, _*_, _/_, _%_, _^_}
 use lib.Dec.{eqb}
 
@@ -36,10 +36,6 @@ merged n old new mask = word n (λ i. cond (bit mask i) (bit new i) (bit old i))
 -- the bits of x and those of y
 unfoldable pub united : ℕ → ℕ → ℕ → ℕ
 united n x y = word n (λ i. bit x i || bit y i)
-
--- the bits in which x and y differ
-unfoldable pub differing : ℕ → ℕ → ℕ → ℕ
-differing n x y = word n (λ i. xor (bit x i) (bit y i))
 
 -- x, with b as bit k
 unfoldable pub withBit : ℕ → ℕ → ℕ → Bool → ℕ

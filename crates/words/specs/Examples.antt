@@ -1,8 +1,8 @@
 -- The words of Bit.antt, computed.
 use mathlib.Core.Path.{_≡_, refl}
-use mathlib.Core.Bool.{true, false, xor}
+use mathlib.Core.Bool.{true, false}
 use Prim.Native.Nat.{_^_, _-_}
-use Rattle.words.specs.Bit.{bit, word, field, masked, less, merged, united, differing, withBit}
+use Rattle.words.specs.Bit.{bit, word, field, masked, less, merged, united, withBit}
 
 bit-3 : bit 0b1010 3 ≡ true
 bit-3 = refl
@@ -35,10 +35,6 @@ merged-64 = refl
 united-32 : united 32 0x1200_0000 0x0034_0001 ≡ 0x1234_0001
 unfolding united
 united-32 = refl
-
-differing-32 : differing 32 0xff00_ff00 0x0ff0_0ff0 ≡ 0xf0f0_f0f0
-unfolding differing xor
-differing-32 = refl
 
 withBit-31 : withBit 32 1 31 true ≡ 0x8000_0001
 unfolding withBit

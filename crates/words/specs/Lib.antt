@@ -1,6 +1,5 @@
+-- The bits of a word.
+--     Bit         meaning: bits, fields and masks of a number
+--     Examples    the same, computed
 pub mod Bit
-pub mod Laws
-pub mod Masks
-pub mod Ops
-pub mod Known
 pub mod Examples

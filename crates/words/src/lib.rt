@@ -1,8 +1,6 @@
-// The bits of a u32. No function asks anything of its caller. The module wide has the same functions for a u64.
+// The bits of a u32. No function asks anything of its caller.
 ghost use mathlib.Core.Path.{_≡_};
-ghost use Rattle.words.specs.Bit.{bit, differing, field, less, masked, merged, united, withBit};
-
-pub mod wide;
+ghost use Rattle.words.specs.Bit.{bit, field, less, masked, merged, united, withBit};
 
 // Bit k of x: past the width there is none.
 pub fn bit_of(x: u32, k: u32) -> bool
@@ -50,13 +48,6 @@ pub fn united(x: u32, y: u32) -> u32
     ensures { λ r. ⌜ r ≡ united 32 x y ⌝ }
 {
     x | y
-}
-
-// The bits in which x and y differ.
-pub fn differing(x: u32, y: u32) -> u32
-    ensures { λ r. ⌜ r ≡ differing 32 x y ⌝ }
-{
-    x ^ y
 }
 
 // x, with b as bit k: a place past the width leaves x.

@@ -1,6 +1,6 @@
 use borrow.Author.Needs.{needs}
 use mathlib.Core.Path.{sym}
-use Rattle.words.specs.Laws.{bit-high}
+use Rattle.words.proofs.Laws.{bit-high}
 use Rattle.words.proofs.bit_of.Statement.{statement}
 use Rattle.words.proofs.bit_of.Tie as tie
 

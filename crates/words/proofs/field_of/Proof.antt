@@ -1,8 +1,8 @@
 use borrow.Author.Needs.{needs}
 use mathlib.Core.Path.{sym}
 use native.Mathlib.Omega.{arith}
-use Rattle.words.specs.Laws.{field-past, field-rest}
-use Rattle.words.specs.Ops.{field-is, shl-one-pos}
+use Rattle.words.proofs.Laws.{field-past, field-rest}
+use Rattle.words.proofs.Ops.{field-is, shl-one-pos}
 use Rattle.words.proofs.field_of.Statement.{statement}
 use Rattle.words.proofs.field_of.Tie as tie
 

@@ -1,4 +1,4 @@
-use Rattle.words.specs.Ops.{and-is}
+use Rattle.words.proofs.Ops.{and-is}
 use Rattle.words.proofs.masked.Statement.{statement}
 use Rattle.words.proofs.masked.Tie as tie
 

@@ -1,4 +1,4 @@
-use Rattle.words.specs.Ops.{merge-is}
+use Rattle.words.proofs.Ops.{merge-is}
 use Rattle.words.proofs.merge.Statement.{statement}
 use Rattle.words.proofs.merge.Tie as tie
 

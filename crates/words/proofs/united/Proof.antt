@@ -1,4 +1,4 @@
-use Rattle.words.specs.Ops.{or-is}
+use Rattle.words.proofs.Ops.{or-is}
 use Rattle.words.proofs.united.Statement.{statement}
 use Rattle.words.proofs.united.Tie as tie
 

@@ -1,7 +1,7 @@
 use borrow.Author.Needs.{needs}
 use mathlib.Core.Path.{sym}
-use Rattle.words.specs.Masks.{withBit-high}
-use Rattle.words.specs.Ops.{clear-is, set-is}
+use Rattle.words.proofs.Masks.{withBit-high}
+use Rattle.words.proofs.Ops.{clear-is, set-is}
 use Rattle.words.proofs.with_bit.Statement.{statement}
 use Rattle.words.proofs.with_bit.Tie as tie
 

@@ -1,4 +1,4 @@
-use Rattle.words.specs.Ops.{less-is}
+use Rattle.words.proofs.Ops.{less-is}
 use Rattle.words.proofs.without.Statement.{statement}
 use Rattle.words.proofs.without.Tie as tie
 

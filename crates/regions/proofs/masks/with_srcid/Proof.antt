@@ -4,7 +4,7 @@ use native.Mathlib.Omega.{arith}
 use lib.Bits.{bitOr}
 use borrow.Author.Needs.{needs}
 use borrow.Author.Tests.{not-true, not-false}
-use Rattle.words.specs.Ops.{shl-one}
+use Rattle.words.proofs.Ops.{shl-one}
 use Rattle.regions.specs.Masks.{withSrcid}
 use Rattle.regions.proofs.masks.with_srcid.Statement.{statement}
 use Rattle.regions.proofs.masks.with_srcid.Tie as tie

@@ -1,5 +1,5 @@
 use borrow.Author.Needs.{needs}
-use Rattle.words.specs.Masks.{cond-or}
+use Rattle.words.proofs.Masks.{cond-or}
 use Rattle.regions.proofs.rules.base_allows.Statement.{statement}
 use Rattle.regions.proofs.rules.base_allows.Tie as tie
 

@@ -1,6 +1,6 @@
 use borrow.Author.Needs.{needs}
 use borrow.Author.Tests.{not-true, not-false}
-use Rattle.words.specs.Masks.{cond-or}
+use Rattle.words.proofs.Masks.{cond-or}
 use Rattle.regions.specs.Tally.{subAdded}
 use Rattle.regions.proofs.rules.sub_added.Statement.{statement}
 use Rattle.regions.proofs.rules.sub_added.Tie as tie

@@ -1,7 +1,7 @@
 use mathlib.Core.Path.{_≡_, sym, _∙_}
 use lib.ListN.{length}
 use borrow.Author.Needs.{needs}
-use Rattle.words.specs.Known.{length-known}
+use Rattle.words.proofs.Known.{length-known}
 use Rattle.risaf.proofs.MemoryAnswer.{memory-refused, memory-kept}
 use Rattle.risaf.proofs.contents.Guard.memory.Statement.{statement}
 use Rattle.risaf.proofs.contents.Guard.memory.Tie as tie

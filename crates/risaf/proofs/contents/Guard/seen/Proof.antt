@@ -1,7 +1,7 @@
 use mathlib.Core.Path.{ap, _∙_}
 use borrow.Author.Needs.{needs}
 use Rattle.words.specs.Bit.{bit}
-use Rattle.words.specs.Known.{length-known}
+use Rattle.words.proofs.Known.{length-known}
 use Rattle.risaf.specs.Places.{looked}
 use Rattle.risaf.proofs.Stores.{seen-looked}
 use Rattle.risaf.proofs.contents.Guard.seen.Statement.{statement}

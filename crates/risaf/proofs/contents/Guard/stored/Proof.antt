@@ -2,7 +2,7 @@ use mathlib.Core.Path.{_≡_}
 use Prim.Native.Nat.{ℕ}
 use lib.ListN.{length, getD}
 use borrow.Author.Needs.{needs}
-use Rattle.words.specs.Known.{length-known}
+use Rattle.words.proofs.Known.{length-known}
 use Rattle.risaf.specs.Contents.{stored}
 use Rattle.risaf.specs.Places.{guardWords}
 use Rattle.risaf.proofs.Stores.{stored-alone, stored-region, stored-none}

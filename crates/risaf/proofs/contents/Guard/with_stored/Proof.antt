@@ -3,7 +3,7 @@ use Prim.Native.Nat.{_≤_}
 use native.Mathlib.Omega.{arith}
 use lib.ListN.{length}
 use borrow.Author.Needs.{needs}
-use Rattle.words.specs.Known.{length-known}
+use Rattle.words.proofs.Known.{length-known}
 use Rattle.risaf.proofs.Stores.{with-stored-cr, with-stored-iacr, with-stored-kept, with-stored-region, with-stored-none, region-past}
 use Rattle.risaf.proofs.contents.Guard.with_stored.Statement.{statement}
 use Rattle.risaf.proofs.contents.Guard.with_stored.Tie as tie

@@ -1,6 +1,6 @@
 -- Words and their bits: a number below 2 ^ n is known by its n bits.
 use mathlib.Core.Path.{_≡_, refl, sym, ap, ap₂, _∙_, subst}
-use mathlib.Core.Bool.{Bool, true, false, not, _&&_, _||_, cond, xor}
+use mathlib.Core.Bool.{Bool, true, false, not, _&&_, _||_, cond}
 use Prim.Native.Nat.{ℕ, zero, suc, _+_, _-_, _*_, _/_, _%_, _^_, _≤_, _<_}
 use native.Mathlib.Nat.{mod-lt, mod-eq-of-lt, div-lt-iff-lt-mul, lt-of-lt-of-le}
 use native.Mathlib.Decide.{decLt}
@@ -9,7 +9,7 @@ use lib.Dec.{eqb}
 use lib.Arith.{mod-mul, lt-one}
 use lib.Pow.{pow-pos, pow-mono, pow-lt, high, low, mod-mod-pow, shr-shr, shr-lt, field as shr-of-mod}
 use borrow.Author.Tests.{eq-eqb, ne-eqb}
-use Rattle.words.specs.Bit.{bit, one, word, field, masked, less, merged, united, differing, withBit}
+use Rattle.words.specs.Bit.{bit, one, word, field, masked, less, merged, united, withBit}
 
 -- ---- the number of a bit
 
@@ -192,14 +192,6 @@ bit-united n x y k h = bit-word n (λ i. bit x i || bit y i) k h
 pub united-lt : (n x y : ℕ) → united n x y < 2 ^ n
 unfolding united
 united-lt n x y = word-lt n (λ i. bit x i || bit y i)
-
-pub bit-differing : (n x y k : ℕ) → k < n → bit (differing n x y) k ≡ xor (bit x k) (bit y k)
-unfolding differing
-bit-differing n x y k h = bit-word n (λ i. xor (bit x i) (bit y i)) k h
-
-pub differing-lt : (n x y : ℕ) → differing n x y < 2 ^ n
-unfolding differing
-differing-lt n x y = word-lt n (λ i. xor (bit x i) (bit y i))
 
 pub bit-withBit : (n x k : ℕ) (b : Bool) (i : ℕ) → i < n → bit (withBit n x k b) i ≡ cond (eqb i k) b (bit x i)
 unfolding withBit

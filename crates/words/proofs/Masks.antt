@@ -1,18 +1,18 @@
--- Laws of masked, less, merged, united, differing and withBit.
+-- Laws of masked, less, merged, united and withBit.
 -- To show that one of these, of others, is a word of bits, state that over n and go bit by bit:
 --     word-ext n _ _ (merged-lt n _ _ _) (λ k h. simp (bit-merged, bit-less, bit-masked))
 use mathlib.Core.Path.{_≡_, refl, sym, ap, _∙_}
-use mathlib.Core.Bool.{Bool, true, false, not, _&&_, _||_, cond, xor}
+use mathlib.Core.Bool.{Bool, true, false, not, _&&_, _||_, cond}
 use mathlib.Core.Bool.{and-comm, or-comm, and-true, and-false, or-false, and-self-left}
 use Prim.Native.Nat.{ℕ, _+_, _-_, _^_, _≤_, _<_}
 use native.Mathlib.Omega.{arith}
 use lib.Dec.{eqb}
 use lib.Pow.{pow-pos}
 use borrow.Author.Tests.{eq-eqb, ne-eqb, eqb-true}
-use Rattle.words.specs.Bit.{bit, word, field, masked, less, merged, united, differing, withBit}
-use Rattle.words.specs.Laws.{word-cong, bit-word, bit-ext, bit-zero, bit-ones, field-ext}
-use Rattle.words.specs.Laws.{bit-masked, bit-less, bit-merged, bit-united, bit-differing, bit-withBit}
-use Rattle.words.specs.Laws.{masked-lt, less-lt, merged-lt, united-lt, differing-lt, withBit-lt}
+use Rattle.words.specs.Bit.{bit, word, field, masked, less, merged, united, withBit}
+use Rattle.words.proofs.Laws.{word-cong, bit-word, bit-ext, bit-zero, bit-ones, field-ext}
+use Rattle.words.proofs.Laws.{bit-masked, bit-less, bit-merged, bit-united, bit-withBit}
+use Rattle.words.proofs.Laws.{masked-lt, less-lt, merged-lt, united-lt, withBit-lt}
 
 -- ---- choices between bits
 
@@ -39,18 +39,6 @@ cond-and false a b = refl
 pub cond-or : (m a b : Bool) → (b && not m || m && a) ≡ cond m a b
 cond-or true a b = simp and-false
 cond-or false a b = simp (and-true, or-false)
-
-xor-same : (a : Bool) → xor a a ≡ false
-unfolding xor
-xor-same true = refl
-xor-same false = refl
-
-xor-false : (a b : Bool) → xor a b ≡ false → a ≡ b
-unfolding xor
-xor-false true true e = refl
-xor-false true false e = e
-xor-false false true e = sym e
-xor-false false false e = refl
 
 -- ---- a mask whose bits are known: those of q
 
@@ -164,14 +152,6 @@ masked-comm n x y = word-cong n _ _ (λ k h. and-comm (bit y k) (bit x k))
 pub united-comm : (n x y : ℕ) → united n x y ≡ united n y x
 unfolding united
 united-comm n x y = word-cong n _ _ (λ k h. or-comm (bit x k) (bit y k))
-
-pub differing-self : (n x : ℕ) → differing n x x ≡ 0
-differing-self n x = bit-ext n _ _ (differing-lt n _ _) (pow-pos n) (λ k h. simp (bit-differing, xor-same, bit-zero))
-
-pub differing-none : (n x y : ℕ) → x < 2 ^ n → y < 2 ^ n → differing n x y ≡ 0 → x ≡ y
-differing-none n x y l m e =
-    bit-ext n x y l m
-    (λ k h. xor-false (bit x k) (bit y k) (sym (bit-differing n x y k h) ∙ ap (λ (w : ℕ). bit w k) e ∙ bit-zero k))
 
 -- ---- one bit
 

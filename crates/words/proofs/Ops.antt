@@ -1,16 +1,16 @@
 -- What the machine's operators do to each bit, and what they compute in the words of Bit.antt.
 -- At width n the code's `!x` is (2 ^ n - 1) - x, `x >> k` is x / 2 ^ k, and `x << k` is (x * 2 ^ k) % 2 ^ n.
 use mathlib.Core.Path.{_≡_, refl, ap, _∙_}
-use mathlib.Core.Bool.{Bool, true, false, not, _&&_, _||_, cond, xor, and-comm, and-true, and-false, or-true, or-false}
+use mathlib.Core.Bool.{Bool, true, false, not, _&&_, _||_, cond, and-comm, and-true, and-false, or-true, or-false}
 use Prim.Native.Nat.{ℕ, zero, suc, _+_, _-_, _*_, _/_, _%_, _^_, _<_}
 use native.Mathlib.Nat.{mod-lt, mod-eq-of-lt, lt-of-le-of-lt}
 use native.Mathlib.Omega.{arith}
 use lib.Dec.{eqb}
 use lib.Pow.{pow-pos, pow-lt, ones-sub-lt}
-use lib.Bits.{bitAnd, bitOr, bitXor, and-shr, and-mod, or-shr, or-mod, xor-shr, xor-mod, or-lt, xor-lt, and-le-l, and-le-r}
-use Rattle.words.specs.Bit.{bit, field, masked, less, merged, united, differing, withBit}
-use Rattle.words.specs.Laws.{word-ext, word-not, bit-word, bit-mod, bit-upper, bit-lower, bit-zero, bit-pow}
-use Rattle.words.specs.Masks.{cond-or}
+use lib.Bits.{bitAnd, bitOr, and-shr, and-mod, or-shr, or-mod, or-lt, and-le-l, and-le-r}
+use Rattle.words.specs.Bit.{bit, field, masked, less, merged, united, withBit}
+use Rattle.words.proofs.Laws.{word-ext, word-not, bit-word, bit-mod, bit-upper, bit-lower, bit-zero, bit-pow}
+use Rattle.words.proofs.Masks.{cond-or}
 
 -- ---- bit by bit
 
@@ -39,10 +39,6 @@ bit-and = bit-op bitAnd _&&_ and-shr and-mod (digits (λ x y. eqb (bitAnd x y) 1
 
 pub bit-or : (a b k : ℕ) → bit (bitOr a b) k ≡ (bit a k || bit b k)
 bit-or = bit-op bitOr _||_ or-shr or-mod (digits (λ x y. eqb (bitOr x y) 1 ≡ (eqb x 1 || eqb y 1)) refl refl refl refl)
-
-pub bit-xor : (a b k : ℕ) → bit (bitXor a b) k ≡ xor (bit a k) (bit b k)
-unfolding xor
-bit-xor = bit-op bitXor xor xor-shr xor-mod (digits (λ x y. eqb (bitXor x y) 1 ≡ xor (eqb x 1) (eqb y 1)) refl refl refl refl)
 
 pub bit-not : (n a k : ℕ) → a < 2 ^ n → k < n → bit ((2 ^ n - 1) - a) k ≡ not (bit a k)
 bit-not n a k l h =
@@ -88,10 +84,6 @@ merge-is n old new mask l =
 pub or-is : (n x y : ℕ) → x < 2 ^ n → y < 2 ^ n → bitOr x y ≡ united n x y
 unfolding united
 or-is n x y l m = word-ext n (bitOr x y) _ (or-lt n x y l m) (λ k h. bit-or x y k)
-
-pub xor-is : (n x y : ℕ) → x < 2 ^ n → y < 2 ^ n → bitXor x y ≡ differing n x y
-unfolding differing
-xor-is n x y l m = word-ext n (bitXor x y) _ (xor-lt n x y l m) (λ k h. bit-xor x y k)
 
 -- x >> at, then the rest by 1 << wide
 pub field-is : (n x at wide : ℕ) → wide < n → x / 2 ^ at % ((1 * 2 ^ wide) % 2 ^ n) ≡ field x at wide

@@ -1,0 +1,4 @@
+pub mod Known
+pub mod Laws
+pub mod Masks
+pub mod Ops
