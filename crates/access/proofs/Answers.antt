@@ -1,17 +1,30 @@
--- The answers' numbers are at most 8, so an encoded answer fits a u64.
+-- Laws of the answers.
+use mathlib.Core.List.{[], _∷_}
+use mathlib.Core.Path.{_≡_, refl}
 use Prim.Native.Nat.{_≤_}
 use lib.Dec.{lit≤}
-use Rattle.access.specs.Answer.{numberOf}
+use types.Run.{OneOf, miss}
+use denote.Enum.Declared.{tagOf}
+use Rattle.access.specs.Answer.{numberOf, left}
+use Rattle.access.specs.declared.answer.Why.the-variants.{Locked, NoRegister, NoSuch, Misaligned, Outside, Fetch, WrongLength}
 use Rattle.access.specs.declared.answer.Answer.{Answer}
-use Rattle.access.specs.declared.answer.Answer.the-variants.{Done, Refused, Locked, NoRegister, NoSuch, Misaligned, Outside, Fetch, WrongLength}
+use Rattle.access.specs.declared.answer.Answer.the-variants.{Done, Refused, Rejected}
+use Rattle.access.proofs.answer.Answer.{the-type}
 
+-- the numbers are at most 8, so an encoded answer fits a u64
 pub number-most : (a : Answer) → numberOf a ≤ 8
 number-most (Done v) = lit≤ tt
-number-most Refused = lit≤ tt
-number-most Locked = lit≤ tt
-number-most NoRegister = lit≤ tt
-number-most NoSuch = lit≤ tt
-number-most Misaligned = lit≤ tt
-number-most Outside = lit≤ tt
-number-most Fetch = lit≤ tt
-number-most WrongLength = lit≤ tt
+number-most (Refused v) = lit≤ tt
+number-most (Rejected Locked) = lit≤ tt
+number-most (Rejected NoRegister) = lit≤ tt
+number-most (Rejected NoSuch) = lit≤ tt
+number-most (Rejected Misaligned) = lit≤ tt
+number-most (Rejected Outside) = lit≤ tt
+number-most (Rejected Fetch) = lit≤ tt
+number-most (Rejected WrongLength) = lit≤ tt
+
+-- where a refusal leaves what was there, an answer other than done does
+pub kept : {S : Type 0} (a : Answer) (s e : S) → OneOf (1 ∷ 2 ∷ []) (tagOf the-type a) → left a s e s ≡ s
+kept (Done v) s e h = absurd (miss (1 ∷ 2 ∷ []) 0 tt h)
+kept (Refused v) s e h = refl
+kept (Rejected why) s e h = refl

@@ -2,8 +2,9 @@
 -- 8 comes first of all, before lent memory is read as a state.
 use mathlib.Core.Bool.{Bool, true, false}
 use Prim.Native.Nat.{ℕ}
+use Rattle.access.specs.declared.answer.Why.the-variants.{Locked, NoRegister, NoSuch, Misaligned, Outside, Fetch}
 use Rattle.access.specs.declared.answer.Answer.{Answer}
-use Rattle.access.specs.declared.answer.Answer.the-variants.{Done, Refused, Locked, NoRegister, NoSuch, Misaligned, Outside, Fetch}
+use Rattle.access.specs.declared.answer.Answer.the-variants.{Done, Refused, Rejected}
 use Rattle.access.specs.declared.checks.Checks.{Checks}
 
 -- a refusal unless the test is passed
@@ -11,14 +12,20 @@ abbrev pub unless : Bool → Answer → Answer → Answer
 unless true refusal rest = rest
 unless false refusal rest = refusal
 
+-- unknown offset (3), 1, wrong direction (3), 2, effect
+unfoldable pub reached : Checks → ℕ → Answer
+reached c value =
+    unless (c .known) (Rejected NoRegister)
+    (unless (c .allowed) (Refused 0)
+    (unless (c .direction) (Rejected NoRegister)
+    (unless (c .unlocked) (Rejected Locked)
+    (Done value))))
+
+-- 4, 5, 6, 7, and the rest
 unfoldable pub answered : Checks → ℕ → Answer
 answered c value =
-    unless (c .present) NoSuch
-    (unless (c .aligned) Misaligned
-    (unless (c .inside) Outside
-    (unless (c .fetchless) Fetch
-    (unless (c .known) NoRegister
-    (unless (c .allowed) Refused
-    (unless (c .direction) NoRegister
-    (unless (c .unlocked) Locked
-    (Done value))))))))
+    unless (c .present) (Rejected NoSuch)
+    (unless (c .aligned) (Rejected Misaligned)
+    (unless (c .inside) (Rejected Outside)
+    (unless (c .fetchless) (Rejected Fetch)
+    (reached c value))))

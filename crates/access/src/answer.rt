@@ -1,10 +1,8 @@
 ghost use mathlib.Core.Path.{_≡_};
-ghost use Rattle.access.specs.Answer.{encodedOf, numberOf, valueOf};
+ghost use Rattle.access.specs.Answer.{encodedOf, numberOf, valueOf, whyNumber};
 
-// The answer to an event: document 01's table of numbers given back.
-pub enum Answer {
-    Done(u32),
-    Refused,
+// Why an event is rejected: it leaves the state as it was.
+pub enum Why {
     Locked,
     NoRegister,
     NoSuch,
@@ -14,20 +12,38 @@ pub enum Answer {
     WrongLength,
 }
 
+// The answer to an event, in the three ways in which it can end: done, refused for want of rights, rejected.
+pub enum Answer {
+    Done(u32),
+    Refused(u32),
+    Rejected(Why),
+}
+
+impl Why {
+    fn number(self) -> u64
+        ensures { λ r. ⌜ r ≡ whyNumber self ⌝ }
+    {
+        match self {
+            Why::Locked => 2,
+            Why::NoRegister => 3,
+            Why::NoSuch => 4,
+            Why::Misaligned => 5,
+            Why::Outside => 6,
+            Why::Fetch => 7,
+            Why::WrongLength => 8,
+        }
+    }
+}
+
 impl Answer {
+    // Its number in document 01's table.
     pub fn number(self) -> u64
         ensures { λ r. ⌜ r ≡ numberOf self ⌝ }
     {
         match self {
             Answer::Done(_) => 0,
-            Answer::Refused => 1,
-            Answer::Locked => 2,
-            Answer::NoRegister => 3,
-            Answer::NoSuch => 4,
-            Answer::Misaligned => 5,
-            Answer::Outside => 6,
-            Answer::Fetch => 7,
-            Answer::WrongLength => 8,
+            Answer::Refused(_) => 1,
+            Answer::Rejected(why) => why.number(),
         }
     }
 
@@ -36,14 +52,8 @@ impl Answer {
     {
         match self {
             Answer::Done(value) => value,
-            Answer::Refused => 0,
-            Answer::Locked => 0,
-            Answer::NoRegister => 0,
-            Answer::NoSuch => 0,
-            Answer::Misaligned => 0,
-            Answer::Outside => 0,
-            Answer::Fetch => 0,
-            Answer::WrongLength => 0,
+            Answer::Refused(value) => value,
+            Answer::Rejected(_) => 0,
         }
     }
 

@@ -1,6 +1,7 @@
 use crate::Answer;
+use crate::Why;
 ghost use mathlib.Core.Path.{_≡_};
-ghost use Rattle.access.specs.Checks.{answered};
+ghost use Rattle.access.specs.Checks.{answered, reached};
 
 // What is tested of an event once the lent memory has its length. A test that a kind of event does not have is passed.
 pub struct Checks {
@@ -23,34 +24,41 @@ pub struct Checks {
 }
 
 impl Checks {
+    // Where what is asked for can be reached.
+    fn reached(self, value: u32) -> Answer
+        ensures { λ r. ⌜ r ≡ reached self value ⌝ }
+    {
+        if !self.known {
+            return Answer::Rejected(Why::NoRegister);
+        }
+        if !self.allowed {
+            return Answer::Refused(0);
+        }
+        if !self.direction {
+            return Answer::Rejected(Why::NoRegister);
+        }
+        if !self.unlocked {
+            return Answer::Rejected(Why::Locked);
+        }
+        Answer::Done(value)
+    }
+
     // The answer of the first test that fails, or done with the value.
     pub fn answer(self, value: u32) -> Answer
         ensures { λ r. ⌜ r ≡ answered self value ⌝ }
     {
         if !self.present {
-            return Answer::NoSuch;
+            return Answer::Rejected(Why::NoSuch);
         }
         if !self.aligned {
-            return Answer::Misaligned;
+            return Answer::Rejected(Why::Misaligned);
         }
         if !self.inside {
-            return Answer::Outside;
+            return Answer::Rejected(Why::Outside);
         }
         if !self.fetchless {
-            return Answer::Fetch;
+            return Answer::Rejected(Why::Fetch);
         }
-        if !self.known {
-            return Answer::NoRegister;
-        }
-        if !self.allowed {
-            return Answer::Refused;
-        }
-        if !self.direction {
-            return Answer::NoRegister;
-        }
-        if !self.unlocked {
-            return Answer::Locked;
-        }
-        Answer::Done(value)
+        self.reached(value)
     }
 }

@@ -2,6 +2,12 @@
 ghost use mathlib.Core.Path.{_≡_};
 ghost use Rattle.words.specs.Bit.{bit, field, less, masked, merged, united, withBit};
 
+pub mod six;
+
+pub use six::bit_at;
+pub use six::with_word;
+pub use six::word_at;
+
 // Bit k of x: past the width there is none.
 pub fn bit_of(x: u32, k: u32) -> bool
     ensures { λ r. ⌜ r ≡ bit x k ⌝ }

@@ -44,73 +44,16 @@ returns-4 c =
 returns-5 : tie.Need-returns-5
 unfolding answered
 returns-5 c =
-    let s = c .before .before .before .before .before .before .before .before .before .before .args .self in
+    let s = c .before .before .before .before .before .before .before .before .before .args .self in
     rw (
-      not-false (s .present) (c .before .before .before .before .before .before .before .before .if1 .left),
-      not-false (s .aligned) (c .before .before .before .before .before .before .if2 .left),
-      not-false (s .inside) (c .before .before .before .before .if3 .left),
-      not-false (s .fetchless) (c .before .before .if4 .left),
-      not-true (s .known) (c .if5 .taken),
-    )
-
-returns-6 : tie.Need-returns-6
-unfolding answered
-returns-6 c =
-    let s = c .before .before .before .before .before .before .before .before .before .before .before .before .args .self in
-    rw (
-      not-false (s .present) (c .before .before .before .before .before .before .before .before .before .before .if1 .left),
-      not-false (s .aligned) (c .before .before .before .before .before .before .before .before .if2 .left),
-      not-false (s .inside) (c .before .before .before .before .before .before .if3 .left),
-      not-false (s .fetchless) (c .before .before .before .before .if4 .left),
-      not-false (s .known) (c .before .before .if5 .left),
-      not-true (s .allowed) (c .if6 .taken),
-    )
-
-returns-7 : tie.Need-returns-7
-unfolding answered
-returns-7 c =
-    let s = c .before .before .before .before .before .before .before .before .before .before .before .before .before .before .args .self in
-    rw (
-      not-false (s .present) (c .before .before .before .before .before .before .before .before .before .before .before .before .if1 .left),
-      not-false (s .aligned) (c .before .before .before .before .before .before .before .before .before .before .if2 .left),
-      not-false (s .inside) (c .before .before .before .before .before .before .before .before .if3 .left),
-      not-false (s .fetchless) (c .before .before .before .before .before .before .if4 .left),
-      not-false (s .known) (c .before .before .before .before .if5 .left),
-      not-false (s .allowed) (c .before .before .if6 .left),
-      not-true (s .direction) (c .if7 .taken),
-    )
-
-returns-8 : tie.Need-returns-8
-unfolding answered
-returns-8 c =
-    let s = c .before .before .before .before .before .before .before .before .before .before .before .before .before .before .before .before .args .self in
-    rw (
-      not-false (s .present) (c .before .before .before .before .before .before .before .before .before .before .before .before .before .before .if1 .left),
-      not-false (s .aligned) (c .before .before .before .before .before .before .before .before .before .before .before .before .if2 .left),
-      not-false (s .inside) (c .before .before .before .before .before .before .before .before .before .before .if3 .left),
-      not-false (s .fetchless) (c .before .before .before .before .before .before .before .before .if4 .left),
-      not-false (s .known) (c .before .before .before .before .before .before .if5 .left),
-      not-false (s .allowed) (c .before .before .before .before .if6 .left),
-      not-false (s .direction) (c .before .before .if7 .left),
-      not-true (s .unlocked) (c .if8 .taken),
-    )
-
-returns-9 : tie.Need-returns-9
-unfolding answered
-returns-9 c =
-    let s = c .before .before .before .before .before .before .before .before .before .before .before .before .before .before .before .before .args .self in
-    rw (
-      not-false (s .present) (c .before .before .before .before .before .before .before .before .before .before .before .before .before .before .if1 .left),
-      not-false (s .aligned) (c .before .before .before .before .before .before .before .before .before .before .before .before .if2 .left),
-      not-false (s .inside) (c .before .before .before .before .before .before .before .before .before .before .if3 .left),
-      not-false (s .fetchless) (c .before .before .before .before .before .before .before .before .if4 .left),
-      not-false (s .known) (c .before .before .before .before .before .before .if5 .left),
-      not-false (s .allowed) (c .before .before .before .before .if6 .left),
-      not-false (s .direction) (c .before .before .if7 .left),
-      not-false (s .unlocked) (c .if8 .left),
+      c .reached .ensures,
+      not-false (s .present) (c .before .before .before .before .before .before .before .if1 .left),
+      not-false (s .aligned) (c .before .before .before .before .before .if2 .left),
+      not-false (s .inside) (c .before .before .before .if3 .left),
+      not-false (s .fetchless) (c .before .if4 .left),
     )
 
 pub answer-spec : {M : Type 1} → statement M
 answer-spec =
     tie.close
-    (tie.spec returns returns-2 returns-3 returns-4 returns-5 returns-6 returns-7 returns-8 returns-9)
+    (tie.spec returns returns-2 returns-3 returns-4 (λ c κs. search needs) returns-5)
