@@ -1,9 +1,11 @@
 -- The controller's registers as stored, and reset: document 01, "RIFSC".
-use mathlib.Core.List.{List}
+use mathlib.Core.Bool.{Bool, false}
 use Prim.Native.Nat.{ℕ}
 use lib.ListN.{getD, set, replicate}
 use Rattle.words.specs.Bit.{bit}
-use Rattle.rifsc.specs.Registers.{ppsr, indexOf}
+use Rattle.rifsc.specs.Registers.{ppsr}
+use Rattle.rifsc.specs.declared.registers.Lock.{Lock}
+use Rattle.rifsc.specs.declared.registers.Lock.the-variants.{Glock, RimcLock, Never}
 use Rattle.rifsc.specs.declared.registers.Register.{Register}
 use Rattle.rifsc.specs.declared.registers.Register.the-variants.{Cr, Seccfgr, Privcfgr, Rcfglockr, Rimccr, Attr, Ppsr, Unknown}
 use Rattle.rifsc.specs.declared.contents.Rifsc.{Rifsc}
@@ -79,14 +81,19 @@ withStored r (Attr m) v =
 withStored r (Ppsr x) v = r
 withStored r Unknown v = r
 
--- what an access to a register looks at
-unfoldable pub seen : Rifsc → Register → Seen
-seen r reg =
+-- GLOCK of CR, GLOCK of RIMC_CR
+abbrev pub isLocked : Rifsc → Lock → Bool
+isLocked r Glock = bit (r .cr) 0
+isLocked r RimcLock = bit (r .rimccr) 0
+isLocked r Never = false
+
+-- what an access to a register looks at, whose row of the table has this lock and index
+unfoldable pub seen : Rifsc → Register → Lock → ℕ → Seen
+seen r reg lock index =
     record {
-      glock = bit (r .cr) 0;
-      rimclock = bit (r .rimccr) 0;
-      rlock = getD (r .rcfglockr) (indexOf reg) 0;
-      sec = getD (r .seccfgr) (indexOf reg) 0;
+      locked = isLocked r lock;
+      rlock = getD (r .rcfglockr) index 0;
+      sec = getD (r .seccfgr) index 0;
       word = stored r reg;
     }
 

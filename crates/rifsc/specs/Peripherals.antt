@@ -1,20 +1,16 @@
 -- The peripheral filter: document 01, "Peripheral p exists when .." and "An access is granted when ..".
-use mathlib.Core.Bool.{Bool, true, false, not, _&&_, _||_}
-use Prim.Native.Nat.{ℕ, _/_, _%_}
+use mathlib.Core.Bool.{Bool, not, _&&_, _||_}
 use lib.Dec.{ltb}
-use lib.ListN.{getD}
-use Rattle.words.specs.Bit.{bit}
-use Rattle.rifsc.specs.Registers.{ppsr}
+use Rattle.words.specs.Six.{bitAt}
+use Rattle.rifsc.specs.Registers.{ppsrs}
+use Rattle.rifsc.specs.declared.peripherals.PeripheralNumber.{PeripheralNumber}
 use Rattle.rifsc.specs.declared.contents.Rifsc.{Rifsc}
 
-unfoldable pub exists : ℕ → Bool
-exists p = ltb p 128 && bit (ppsr (p / 32)) (p % 32)
+-- p < 128 and its PPSR bit is 1
+unfoldable pub exists : PeripheralNumber → Bool
+exists p = ltb (p .0) 128 && bitAt ppsrs (p .0)
 
--- SEC is 0 or the access is secure, and PRIV is 0 or it is privileged; the words are the peripheral's SECCFGR and PRIVCFGR
-abbrev pub wordsGrant : ℕ → ℕ → ℕ → Bool → Bool → Bool
-wordsGrant sec priv p secure privileged =
-    (not (bit sec (p % 32)) || secure) && (not (bit priv (p % 32)) || privileged)
-
-unfoldable pub grants : Rifsc → ℕ → Bool → Bool → Bool
+-- SEC is 0 or the access is secure, and PRIV is 0 or it is privileged
+unfoldable pub grants : Rifsc → PeripheralNumber → Bool → Bool → Bool
 grants r p secure privileged =
-    wordsGrant (getD (r .seccfgr) (p / 32) 0) (getD (r .privcfgr) (p / 32) 0) p secure privileged
+    (not (bitAt (r .seccfgr) (p .0)) || secure) && (not (bitAt (r .privcfgr) (p .0)) || privileged)

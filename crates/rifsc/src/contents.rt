@@ -1,9 +1,10 @@
 use crate::Register;
+use crate::registers::Lock;
 use crate::registers::ppsr;
 use access::Answer;
 ghost use mathlib.Core.Path.{_≡_};
 ghost use lib.ListN.{getD, set};
-ghost use Rattle.rifsc.specs.Contents.{reset, seen, stored, withStored};
+ghost use Rattle.rifsc.specs.Contents.{isLocked, reset, seen, stored, withStored};
 
 // The controller's registers as stored, whole words.
 pub struct Rifsc {
@@ -16,16 +17,14 @@ pub struct Rifsc {
 }
 
 // What an access to a register looks at.
-pub struct Seen {
-    // GLOCK of CR.
-    pub glock: bool,
-    // GLOCK of RIMC_CR.
-    pub rimclock: bool,
+pub(crate) struct Seen {
+    // The register is locked whole.
+    pub(crate) locked: bool,
     // RCFGLOCKR and SECCFGR of the register's index.
-    pub rlock: u32,
-    pub sec: u32,
+    pub(crate) rlock: u32,
+    pub(crate) sec: u32,
     // The register's own word.
-    pub word: u32,
+    pub(crate) word: u32,
 }
 
 // What an access leaves: the next state and the answer.
@@ -34,28 +33,14 @@ pub struct Stepped {
     pub answer: Answer,
 }
 
-// The word at x; past the last there is none.
-pub(crate) fn word_at(words: [u32; 6], x: usize) -> u32
-    ensures { λ r. ⌜ r ≡ getD words x 0 ⌝ }
-{
-    if x < 6 { words[x] } else { 0 }
-}
+// RIMC_CR at reset.
+const RIMC_RESET: u32 = 0x0000_0710;
 
 // ATTR of master m; past the last there is none.
 pub(crate) fn attr_at(attr: [u32; 13], m: usize) -> u32
     ensures { λ r. ⌜ r ≡ getD attr m 0 ⌝ }
 {
     if m < 13 { attr[m] } else { 0 }
-}
-
-// The words with v at x; past the last as they were.
-fn with_word(mut words: [u32; 6], x: usize, v: u32) -> [u32; 6]
-    ensures { λ r. ⌜ r ≡ set words x v ⌝ }
-{
-    if x < 6 {
-        words[x] = v;
-    }
-    words
 }
 
 fn with_attr(mut attr: [u32; 13], m: usize, v: u32) -> [u32; 13]
@@ -76,28 +61,28 @@ impl Rifsc {
             seccfgr: [0; 6],
             privcfgr: [0; 6],
             rcfglockr: [0; 6],
-            rimccr: 0x0000_0710,
+            rimccr: RIMC_RESET,
             attr: [0; 13],
         }
     }
 
     // The word stored for a register.
-    pub fn stored(self, reg: Register) -> u32
+    fn stored(self, reg: Register) -> u32
         ensures { λ r. ⌜ r ≡ stored self reg ⌝ }
     {
         match reg {
             Register::Cr => self.cr,
             Register::Seccfgr(x) => {
                 let words = self.seccfgr;
-                word_at(words, x)
+                words::word_at(words, x)
             }
             Register::Privcfgr(x) => {
                 let words = self.privcfgr;
-                word_at(words, x)
+                words::word_at(words, x)
             }
             Register::Rcfglockr(x) => {
                 let words = self.rcfglockr;
-                word_at(words, x)
+                words::word_at(words, x)
             }
             Register::Rimccr => self.rimccr,
             Register::Attr(m) => {
@@ -110,24 +95,24 @@ impl Rifsc {
     }
 
     // The controller with another word stored for a register.
-    pub fn with_stored(mut self, reg: Register, v: u32) -> Self
+    pub(crate) fn with_stored(mut self, reg: Register, v: u32) -> Self
         ensures { λ r. ⌜ r ≡ withStored self reg v ⌝ }
     {
         match reg {
             Register::Cr => self.cr = v,
             Register::Seccfgr(x) => {
                 let old = self.seccfgr;
-                let new = with_word(old, x, v);
+                let new = words::with_word(old, x, v);
                 self.seccfgr = new;
             }
             Register::Privcfgr(x) => {
                 let old = self.privcfgr;
-                let new = with_word(old, x, v);
+                let new = words::with_word(old, x, v);
                 self.privcfgr = new;
             }
             Register::Rcfglockr(x) => {
                 let old = self.rcfglockr;
-                let new = with_word(old, x, v);
+                let new = words::with_word(old, x, v);
                 self.rcfglockr = new;
             }
             Register::Rimccr => self.rimccr = v,
@@ -142,18 +127,26 @@ impl Rifsc {
         self
     }
 
-    // What an access to a register looks at.
-    pub fn seen(self, reg: Register) -> Seen
-        ensures { λ r. ⌜ r ≡ seen self reg ⌝ }
+    fn is_locked(self, lock: Lock) -> bool
+        ensures { λ r. ⌜ r ≡ isLocked self lock ⌝ }
     {
-        let x = reg.index_of();
+        match lock {
+            Lock::Glock => words::bit_of(self.cr, 0),
+            Lock::RimcLock => words::bit_of(self.rimccr, 0),
+            Lock::Never => false,
+        }
+    }
+
+    // What an access to a register looks at, whose row of the table has this lock and index.
+    pub(crate) fn seen(self, reg: Register, lock: Lock, index: usize) -> Seen
+        ensures { λ r. ⌜ r ≡ seen self reg lock index ⌝ }
+    {
         let rcfglockr = self.rcfglockr;
         let seccfgr = self.seccfgr;
         Seen {
-            glock: words::bit_of(self.cr, 0),
-            rimclock: words::bit_of(self.rimccr, 0),
-            rlock: word_at(rcfglockr, x),
-            sec: word_at(seccfgr, x),
+            locked: self.is_locked(lock),
+            rlock: words::word_at(rcfglockr, index),
+            sec: words::word_at(seccfgr, index),
             word: self.stored(reg),
         }
     }

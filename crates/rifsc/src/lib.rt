@@ -2,11 +2,10 @@
 pub mod contents;
 pub mod masters;
 pub mod peripherals;
-pub mod port;
+mod port;
 pub mod registers;
 
 pub use contents::Rifsc;
-pub use contents::Seen;
 pub use contents::Stepped;
 pub use masters::MasterNumber;
 pub use peripherals::PeripheralNumber;

@@ -1,6 +1,5 @@
-use crate::contents::word_at;
 ghost use mathlib.Core.Path.{_≡_};
-ghost use Rattle.rifsc.specs.Registers.{facts, factsOf, indexOf, ppsr, registerAt};
+ghost use Rattle.rifsc.specs.Registers.{ppsr, registerAt, row, rowOf};
 
 // A register of the controller, with its index where it is one of several.
 pub enum Register {
@@ -14,20 +13,40 @@ pub enum Register {
     Unknown,
 }
 
-// What is fixed of a register.
-pub(crate) struct Facts {
+// What stops every write to a register: GLOCK of CR, GLOCK of RIMC_CR, or nothing.
+pub(crate) enum Lock {
+    Glock,
+    RimcLock,
+    Never,
+}
+
+// A register's row of the table: all that is fixed of it.
+pub(crate) struct Row {
     pub(crate) known: bool,
     // Not read-only.
     pub(crate) writable: bool,
-    // A write needs secure.
+    // A write needs secure; every write needs privileged.
     pub(crate) secure: bool,
-    // The bits that read 1 whatever is stored.
+    pub(crate) lock: Lock,
+    pub(crate) index: usize,
+    // The bits that read 1 whatever is stored, and the named bits.
     pub(crate) fixed: u32,
-    // The named bits.
     pub(crate) named: u32,
 }
 
-const PERIPHERALS: [u32; 6] = [
+// GLOCK, of CR and of RIMC_CR; DAPCID and the constant of RIMC_CR; what ATTR has beside MCID, and with it.
+pub(crate) const GLOCK: u32 = 0x0000_0001;
+
+pub(crate) const DAPCID: u32 = 0x0000_0700;
+
+const RIMC_CONSTANT: u32 = 0x0000_0010;
+
+pub(crate) const ATTR_FLAGS: u32 = 0x0000_0300;
+
+pub(crate) const ATTR_NAMED: u32 = 0x0000_0370;
+
+// PPSR0 to PPSR5.
+pub(crate) const PERIPHERALS: [u32; 6] = [
     0xffff_ff7f,
     0x77ff_ffff,
     0xf7df_f03b,
@@ -37,14 +56,14 @@ const PERIPHERALS: [u32; 6] = [
 ];
 
 // PPSRx: which bits of SECCFGRx, PRIVCFGRx and RCFGLOCKRx are named. Past the last there is none.
-pub fn ppsr(x: usize) -> u32
+pub(crate) fn ppsr(x: usize) -> u32
     ensures { λ r. ⌜ r ≡ ppsr x ⌝ }
 {
-    word_at(PERIPHERALS, x)
+    words::word_at(PERIPHERALS, x)
 }
 
 // The register at an offset that is a multiple of 4.
-pub fn register_at(offset: u32) -> Register
+pub(crate) fn register_at(offset: u32) -> Register
     ensures { λ r. ⌜ r ≡ registerAt offset ⌝ }
 {
     match offset {
@@ -59,14 +78,17 @@ pub fn register_at(offset: u32) -> Register
     }
 }
 
-impl Facts {
-    fn of(known: bool, writable: bool, secure: bool, fixed: u32, named: u32) -> Self
-        ensures { λ r. ⌜ r ≡ facts known writable secure fixed named ⌝ }
+impl Row {
+    // A register that there is, and that can be written.
+    fn of(secure: bool, lock: Lock, index: usize, fixed: u32, named: u32) -> Self
+        ensures { λ r. ⌜ r ≡ row secure lock index fixed named ⌝ }
     {
-        Facts {
-            known,
-            writable,
+        Row {
+            known: true,
+            writable: true,
             secure,
+            lock,
+            index,
             fixed,
             named,
         }
@@ -74,35 +96,35 @@ impl Facts {
 }
 
 impl Register {
-    // In the order of the fields: known, writable, secure, fixed, named.
-    pub(crate) fn facts(self) -> Facts
-        ensures { λ r. ⌜ r ≡ factsOf self ⌝ }
+    // The table of registers. In the order of the columns: a write needs secure, lock, index, bits that read 1, named bits.
+    pub(crate) fn row(self) -> Row
+        ensures { λ r. ⌜ r ≡ rowOf self ⌝ }
     {
         match self {
-            Register::Cr => Facts::of(true, true, true, 0, 0x001),
-            Register::Seccfgr(x) => Facts::of(true, true, true, 0, ppsr(x)),
-            Register::Privcfgr(x) => Facts::of(true, true, false, 0, ppsr(x)),
-            Register::Rcfglockr(x) => Facts::of(true, true, true, 0, ppsr(x)),
-            Register::Rimccr => Facts::of(true, true, true, 0x010, 0x701),
-            Register::Attr(_) => Facts::of(true, true, true, 0, 0x370),
-            Register::Ppsr(_) => Facts::of(true, false, true, 0, 0xffff_ffff),
-            Register::Unknown => Facts::of(false, false, true, 0, 0),
-        }
-    }
-
-    // The index, 0 where there is but one register.
-    pub fn index_of(self) -> usize
-        ensures { λ r. ⌜ r ≡ indexOf self ⌝ }
-    {
-        match self {
-            Register::Cr => 0,
-            Register::Seccfgr(x) => x,
-            Register::Privcfgr(x) => x,
-            Register::Rcfglockr(x) => x,
-            Register::Rimccr => 0,
-            Register::Attr(m) => m,
-            Register::Ppsr(x) => x,
-            Register::Unknown => 0,
+            Register::Cr => Row::of(true, Lock::Glock, 0, 0, GLOCK),
+            Register::Seccfgr(x) => Row::of(true, Lock::Glock, x, 0, ppsr(x)),
+            Register::Privcfgr(x) => Row::of(false, Lock::Glock, x, 0, ppsr(x)),
+            Register::Rcfglockr(x) => Row::of(true, Lock::Glock, x, 0, ppsr(x)),
+            Register::Rimccr => Row::of(true, Lock::RimcLock, 0, RIMC_CONSTANT, DAPCID | GLOCK),
+            Register::Attr(m) => Row::of(true, Lock::RimcLock, m, 0, ATTR_NAMED),
+            Register::Ppsr(x) => Row {
+                known: true,
+                writable: false,
+                secure: true,
+                lock: Lock::Never,
+                index: x,
+                fixed: 0,
+                named: 0xffff_ffff,
+            },
+            Register::Unknown => Row {
+                known: false,
+                writable: false,
+                secure: true,
+                lock: Lock::Never,
+                index: 0,
+                fixed: 0,
+                named: 0,
+            },
         }
     }
 }

@@ -6,7 +6,7 @@ returns : tie.Need-returns
 returns c = simp (c .if1 .taken)
 
 returns-2 : tie.Need-returns-2
-returns-2 c = simp (c .before .if1 .left, c .without .ensures)
+returns-2 c = simp (c .without .ensures, c .before .if1 .left)
 
 pub unless-sec-spec : {M : Type 1} → statement M
 unless-sec-spec =

@@ -1,6 +1,6 @@
 use borrow.Author.Needs.{needs}
-use Rattle.rifsc.proofs.PortLaws.{kept}
 use Rattle.rifsc.specs.Port.{stepped, written}
+use Rattle.access.proofs.Answers.{kept}
 use Rattle.rifsc.proofs.contents.Rifsc.access.Statement.{statement}
 use Rattle.rifsc.proofs.contents.Rifsc.access.Tie as tie
 
@@ -9,7 +9,8 @@ unfolding stepped
 returns c =
     let b = c .before .before .before in
     simp (
-      ← b .before .before .register-at .ensures,
+      ← b .before .before .before .register-at .ensures,
+      ← b .before .before .row .ensures,
       ← b .before .seen .ensures,
       ← b .answer .ensures,
       c .before .enum-told .given .1,
@@ -19,13 +20,14 @@ returns c =
 returns-2 : tie.Need-returns-2
 unfolding stepped
 returns-2 c =
-    let b = c .before .before .before in
+    let b = c .before .before .before .before in
     let a = b .before .args in
-    let e = kept (c .before .answer .result) (a .self) (written (a .self) (b .register-at .result) (a .q)) (c .match .keys2) in
-    simp (← b .register-at .ensures, ← c .before .before .seen .ensures, ← c .before .answer .ensures, e)
+    let v = c .before .before .seen in
+    let e = kept (c .before .answer .result) (a .self) (written (a .self) (b .register-at .result) (v .result) (a .q)) (c .match .keys2) in
+    simp (← b .register-at .ensures, ← c .before .before .before .row .ensures, ← v .ensures, ← c .before .answer .ensures, e)
 
 pub access-spec : {M : Type 1} → statement M
 access-spec =
     tie.close
-    (tie.spec (λ c κs. search needs) (λ c κs. search needs) (λ c κs. search needs) (λ c. search needs)
-    (λ c κs. search needs) returns returns-2)
+    (tie.spec (λ c κs. search needs) (λ c κs. search needs) (λ c κs. search needs) (λ c κs. search needs)
+    (λ c. search needs) (λ c κs. search needs) returns returns-2)

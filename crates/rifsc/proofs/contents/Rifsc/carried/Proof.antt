@@ -5,9 +5,10 @@ use Rattle.rifsc.proofs.contents.Rifsc.carried.Tie as tie
 
 returns : tie.Need-returns
 unfolding carried
-returns c = simp (c .attributes .ensures, c .before .attr-at .ensures)
+returns c = simp (c .bit-of2 .ensures, c .before .bit-of .ensures, c .before .before .field-of .ensures, c .before .before .before .attr-at .ensures)
 
 pub carried-spec : {M : Type 1} → statement M
 carried-spec =
     tie.close
-    (tie.spec (λ c. search needs) (λ c κs. search needs) (λ c κs. search needs) returns)
+    (tie.spec (λ c. search needs) (λ c κs. search needs) (λ c κs. search needs) (λ c κs. search needs)
+    (λ c κs. search needs) returns)

@@ -5,9 +5,9 @@ use Rattle.rifsc.proofs.contents.Rifsc.grants.Tie as tie
 
 returns : tie.Need-returns
 unfolding grants
-returns c = simp (c .words-grant .ensures, c .before .word-at2 .ensures, c .before .before .word-at .ensures)
+returns c = simp (c .bit-at2 .ensures, c .before .bit-at .ensures)
 
 pub grants-spec : {M : Type 1} → statement M
 grants-spec =
     tie.close
-    (tie.spec (λ c. search needs) (λ c κs. search needs) (λ c κs. search needs) (λ c κs. search needs) returns)
+    (tie.spec (λ c κs. search needs) (λ c κs. search needs) returns)

@@ -5,19 +5,9 @@ use Rattle.rifsc.proofs.contents.Rifsc.seen.Tie as tie
 
 returns : tie.Need-returns
 unfolding seen
-returns c =
-    let b = c .before .before .before .before in
-    simp (
-      c .stored .ensures,
-      c .before .word-at2 .ensures,
-      c .before .before .word-at .ensures,
-      c .before .before .before .bit-of2 .ensures,
-      b .bit-of .ensures,
-      b .before .before .before .index-of .ensures,
-    )
+returns c = simp (c .stored .ensures, c .before .word-at2 .ensures, c .before .before .word-at .ensures, c .before .before .before .is-locked .ensures)
 
 pub seen-spec : {M : Type 1} → statement M
 seen-spec =
     tie.close
-    (tie.spec (λ c κs. search needs) (λ c κs. search needs) (λ c κs. search needs) (λ c κs. search needs)
-    (λ c κs. search needs) (λ c κs. search needs) returns)
+    (tie.spec (λ c κs. search needs) (λ c κs. search needs) (λ c κs. search needs) (λ c κs. search needs) returns)
