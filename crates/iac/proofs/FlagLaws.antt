@@ -1,21 +1,17 @@
--- The line of one pair of words, and a flag raised, as the code makes them.
+-- The line of one pair of words, as the code makes it.
 use mathlib.Core.Path.{_≡_, refl, ap, _∙_}
 use mathlib.Core.Bool.{Bool, true, false, not, _&&_, _||_, cond, or-true, or-false}
 use Prim.Native.Nat.{ℕ, zero, suc, _+_, _*_, _^_, _<_}
 use native.Mathlib.Omega.{arith}
 use lib.Dec.{eqb}
-use lib.ListN.{getD}
 use lib.Pow.{pow-pos}
-use lib.Seq.{set-getD}
 use borrow.Author.Tests.{ne-eqb}
 use Rattle.words.specs.Bit.{bit, one, word, masked}
 use Rattle.words.proofs.Laws.{bit-masked}
 use Rattle.words.proofs.Masks.{masked-by}
 use Rattle.access.specs.Fold.{any}
 use Rattle.iac.specs.Registers.{iisr}
-use Rattle.iac.specs.Contents.{withIsr}
 use Rattle.iac.specs.Flags.{lineOf}
-use Rattle.iac.specs.declared.contents.Iac.{Iac}
 
 -- a word is not 0 where it has some bit
 any-word : (n : ℕ) (p : ℕ → Bool) → not (eqb (word n p) 0) ≡ any n p
@@ -36,8 +32,3 @@ line-by n m isr ier =
 pub line-is : (x isr ier : ℕ) → not (eqb (masked 32 ier (masked 32 isr (iisr x))) 0) ≡ lineOf x isr ier
 unfolding lineOf
 line-is x = line-by 32 (iisr x)
-
--- storing the word as it was changes nothing
-pub raise-is : (s : Iac) (x v : ℕ) (t : Bool) → withIsr s x (cond t v (getD (s .isr) x 0)) ≡ cond t (withIsr s x v) s
-raise-is s x v true = refl
-raise-is s x v false = simp set-getD

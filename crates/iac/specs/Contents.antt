@@ -1,5 +1,4 @@
 -- The registers of the IAC as stored, and reset: document 01, "IAC".
-use mathlib.Core.List.{List}
 use Prim.Native.Nat.{ℕ}
 use lib.ListN.{getD, set, replicate}
 use Rattle.iac.specs.Registers.{iisr}
@@ -18,10 +17,10 @@ stored s Unknown = 0
 abbrev pub withIsr : Iac → ℕ → ℕ → Iac
 withIsr s x v = record { ier = s .ier; isr = set (s .isr) x v }
 
--- the IAC with another word stored for a register
+-- the IAC with another word stored for a register that can be written
 unfoldable pub withStored : Iac → Register → ℕ → Iac
 withStored s (Ier x) v = record { ier = set (s .ier) x v; isr = s .isr }
-withStored s (Isr x) v = withIsr s x v
+withStored s (Isr x) v = s
 withStored s (Icr x) v = withIsr s x v
 withStored s (Iisr x) v = s
 withStored s Unknown v = s

@@ -3,18 +3,17 @@ use mathlib.Core.Bool.{Bool, true, _&&_, cond}
 use Prim.Native.Nat.{ℕ, _/_, _%_}
 use lib.ListN.{getD}
 use Rattle.words.specs.Bit.{bit, withBit}
+use Rattle.words.specs.Six.{bitAt}
 use Rattle.access.specs.Fold.{any}
-use Rattle.iac.specs.Registers.{iisr}
+use Rattle.access.specs.declared.flag.Flag.{Flag}
+use Rattle.iac.specs.Registers.{iisr, iisrs}
 use Rattle.iac.specs.Contents.{withIsr}
 use Rattle.iac.specs.declared.contents.Iac.{Iac}
 
--- the index is one of a flag: its IISR bit is 1
-unfoldable pub isFlag : ℕ → Bool
-isFlag i = bit (iisr (i / 32)) (i % 32)
-
 -- raising index i sets ISR bit i if IISR bit i is 1, else nothing
-unfoldable pub raise : ℕ → Iac → Iac
-raise i s = cond (isFlag i) (withIsr s (i / 32) (withBit 32 (getD (s .isr) (i / 32) 0) (i % 32) true)) s
+unfoldable pub raise : Flag → Iac → Iac
+raise i s =
+    cond (bitAt iisrs (i .0)) (withIsr s (i .0 / 32) (withBit 32 (getD (s .isr) (i .0 / 32) 0) (i .0 % 32) true)) s
 
 -- some flag of ISRx and its enable of IERx are both 1; the words are those two
 unfoldable pub lineOf : ℕ → ℕ → ℕ → Bool

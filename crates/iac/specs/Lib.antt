@@ -1,3 +1,8 @@
+-- The illegal access controller IAC: document 01, "IAC".
+--     Registers    meaning: which register an offset is, and the table of registers
+--     Contents     meaning: what is stored, and reset
+--     Port         meaning: a register access
+--     Flags        meaning: raising a flag, and the interrupt line
 pub mod Contents
 pub mod Flags
 pub mod Port

@@ -4,7 +4,7 @@ use mathlib.Core.List.{List, [], _∷_}
 use Prim.Native.Nat.{ℕ, _-_, _/_}
 use lib.ListN.{getD}
 use Rattle.access.specs.Offset.{within}
-use Rattle.iac.specs.declared.registers.Facts.{Facts}
+use Rattle.iac.specs.declared.registers.Row.{Row}
 use Rattle.iac.specs.declared.registers.Register.{Register}
 use Rattle.iac.specs.declared.registers.Register.the-variants.{Ier, Isr, Icr, Iisr, Unknown}
 
@@ -24,49 +24,14 @@ iisrs = 0xffff_ff7f ∷ 0x77ff_ffff ∷ 0x77df_f03b ∷ 0x0000_05ff ∷ 0x7bef_f
 unfoldable pub iisr : ℕ → ℕ
 iisr x = getD iisrs x 0
 
-abbrev pub known : Register → Bool
-known (Ier x) = true
-known (Isr x) = true
-known (Icr x) = true
-known (Iisr x) = true
-known Unknown = false
-
--- not write-only
-abbrev pub readable : Register → Bool
-readable (Ier x) = true
-readable (Isr x) = true
-readable (Icr x) = false
-readable (Iisr x) = true
-readable Unknown = false
-
--- not read-only
-abbrev pub writable : Register → Bool
-writable (Ier x) = true
-writable (Isr x) = false
-writable (Icr x) = true
-writable (Iisr x) = false
-writable Unknown = false
-
--- IER, ISR and ICR need secure and privileged, to read also; IISR needs no rights
-abbrev pub guarded : Register → Bool
-guarded (Ier x) = true
-guarded (Isr x) = true
-guarded (Icr x) = true
-guarded (Iisr x) = false
-guarded Unknown = true
-
--- the named bits
-unfoldable pub named : Register → ℕ
-named (Ier x) = iisr x
-named (Isr x) = iisr x
-named (Icr x) = iisr x
-named (Iisr x) = 0xffff_ffff
-named Unknown = 0
-
--- what is fixed of a register, as one struct
-abbrev pub facts : Bool → Bool → Bool → Bool → ℕ → Facts
-facts known readable writable guarded named =
+abbrev pub row : Bool → Bool → Bool → Bool → ℕ → Row
+row known readable writable guarded named =
     record { known = known; readable = readable; writable = writable; guarded = guarded; named = named }
 
-abbrev pub factsOf : Register → Facts
-factsOf reg = facts (known reg) (readable reg) (writable reg) (guarded reg) (named reg)
+-- The table of registers: is it there, not write-only, not read-only, does it need secure and privileged (to read also), the named bits.
+unfoldable pub rowOf : Register → Row
+rowOf (Ier x) = row true true true true (iisr x)
+rowOf (Isr x) = row true true false true (iisr x)
+rowOf (Icr x) = row true false true true (iisr x)
+rowOf (Iisr x) = row true true false false 0xffff_ffff
+rowOf Unknown = row false false false true 0

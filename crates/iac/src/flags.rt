@@ -1,55 +1,38 @@
 use crate::Iac;
-use crate::contents::with_word;
-use crate::contents::word_at;
+use crate::registers::FLAGS;
 use crate::registers::iisr;
+use access::Flag;
 ghost use mathlib.Core.Path.{_≡_};
-ghost use mathlib.Core.Bool.{true, cond};
-ghost use Prim.Native.Nat.{_%_};
 ghost use lib.ListN.{getD};
-ghost use Rattle.words.specs.Bit.{withBit};
-ghost use Rattle.iac.specs.Flags.{isFlag, line, lineOf, raise};
-
-// The index is one of a flag: its IISR bit is 1.
-pub fn is_flag(i: u32) -> bool
-    ensures { λ r. ⌜ r ≡ isFlag i ⌝ }
-{
-    words::bit_of(iisr((i / 32) as usize), i % 32)
-}
-
-// The word of ISR that index i has its flag in, with the flag raised; as it was where i is not one of a flag.
-pub fn raised(isr: u32, i: u32) -> u32
-    ensures { λ r. ⌜ r ≡ cond (isFlag i) (withBit 32 isr (i % 32) true) isr ⌝ }
-{
-    if is_flag(i) {
-        return words::with_bit(isr, i % 32, true);
-    }
-    isr
-}
-
-// Some flag of ISRx and its enable of IERx are both 1.
-pub fn word_line(x: usize, isr: u32, ier: u32) -> bool
-    ensures { λ r. ⌜ r ≡ lineOf x isr ier ⌝ }
-{
-    words::masked(ier, words::masked(isr, iisr(x))) != 0
-}
+ghost use Rattle.iac.specs.Flags.{line, lineOf, raise};
 
 impl Iac {
-    pub fn raise(mut self, i: u32) -> Self
-        ensures { λ r. ⌜ r ≡ raise i self ⌝ }
+    // With a flag raised; as it was where the index is not one of a flag.
+    pub fn raise(mut self, flag: Flag) -> Self
+        ensures { λ r. ⌜ r ≡ raise flag self ⌝ }
     {
-        let x = (i / 32) as usize;
-        let old = self.isr;
-        let new = with_word(old, x, raised(word_at(old, x), i));
-        self.isr = new;
+        let i = flag.0;
+        if words::bit_at(FLAGS, i) {
+            let x = (i / 32) as usize;
+            let old = self.isr;
+            let new = words::with_word(
+                old,
+                x,
+                words::with_bit(words::word_at(old, x), i % 32, true),
+            );
+            self.isr = new;
+        }
         self
     }
 
+    // Some flag of ISRx and its enable of IERx are both 1.
     fn line_at(self, x: usize) -> bool
         ensures { λ r. ⌜ r ≡ lineOf x (getD (self .isr) x 0) (getD (self .ier) x 0) ⌝ }
     {
         let isr = self.isr;
         let ier = self.ier;
-        word_line(x, word_at(isr, x), word_at(ier, x))
+        let set = words::masked(words::word_at(isr, x), iisr(x));
+        words::masked(words::word_at(ier, x), set) != 0
     }
 
     // The interrupt line.

@@ -1,7 +1,7 @@
 // The illegal access controller IAC: flags, their enables, and the interrupt line.
 pub mod contents;
-pub mod flags;
-pub mod port;
+mod flags;
+mod port;
 pub mod registers;
 
 pub use contents::Iac;

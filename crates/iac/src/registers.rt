@@ -1,6 +1,5 @@
-use crate::contents::word_at;
 ghost use mathlib.Core.Path.{_≡_};
-ghost use Rattle.iac.specs.Registers.{facts, factsOf, iisr, registerAt};
+ghost use Rattle.iac.specs.Registers.{iisr, registerAt, row, rowOf};
 
 // A register of the illegal access controller, with its index.
 pub enum Register {
@@ -11,8 +10,8 @@ pub enum Register {
     Unknown,
 }
 
-// What is fixed of a register.
-pub(crate) struct Facts {
+// A register's row of the table: all that is fixed of it.
+pub(crate) struct Row {
     pub(crate) known: bool,
     // Not write-only.
     pub(crate) readable: bool,
@@ -24,7 +23,8 @@ pub(crate) struct Facts {
     pub(crate) named: u32,
 }
 
-const FLAGS: [u32; 6] = [
+// IISR0 to IISR5.
+pub(crate) const FLAGS: [u32; 6] = [
     0xffff_ff7f,
     0x77ff_ffff,
     0x77df_f03b,
@@ -34,14 +34,14 @@ const FLAGS: [u32; 6] = [
 ];
 
 // IISRx: which bits of IERx, ISRx and ICRx are named. Past the last there is none.
-pub fn iisr(x: usize) -> u32
+pub(crate) fn iisr(x: usize) -> u32
     ensures { λ r. ⌜ r ≡ iisr x ⌝ }
 {
-    word_at(FLAGS, x)
+    words::word_at(FLAGS, x)
 }
 
 // The register at an offset that is a multiple of 4.
-pub fn register_at(offset: u32) -> Register
+pub(crate) fn register_at(offset: u32) -> Register
     ensures { λ r. ⌜ r ≡ registerAt offset ⌝ }
 {
     match offset {
@@ -53,11 +53,11 @@ pub fn register_at(offset: u32) -> Register
     }
 }
 
-impl Facts {
+impl Row {
     fn of(known: bool, readable: bool, writable: bool, guarded: bool, named: u32) -> Self
-        ensures { λ r. ⌜ r ≡ facts known readable writable guarded named ⌝ }
+        ensures { λ r. ⌜ r ≡ row known readable writable guarded named ⌝ }
     {
-        Facts {
+        Row {
             known,
             readable,
             writable,
@@ -68,16 +68,16 @@ impl Facts {
 }
 
 impl Register {
-    // In the order of the fields: known, readable, writable, guarded, named.
-    pub(crate) fn facts(self) -> Facts
-        ensures { λ r. ⌜ r ≡ factsOf self ⌝ }
+    // The table of registers. In the order of the columns: known, readable, writable, guarded, named bits.
+    pub(crate) fn row(self) -> Row
+        ensures { λ r. ⌜ r ≡ rowOf self ⌝ }
     {
         match self {
-            Register::Ier(x) => Facts::of(true, true, true, true, iisr(x)),
-            Register::Isr(x) => Facts::of(true, true, false, true, iisr(x)),
-            Register::Icr(x) => Facts::of(true, false, true, true, iisr(x)),
-            Register::Iisr(_) => Facts::of(true, true, false, false, 0xffff_ffff),
-            Register::Unknown => Facts::of(false, false, false, true, 0),
+            Register::Ier(x) => Row::of(true, true, true, true, iisr(x)),
+            Register::Isr(x) => Row::of(true, true, false, true, iisr(x)),
+            Register::Icr(x) => Row::of(true, false, true, true, iisr(x)),
+            Register::Iisr(_) => Row::of(true, true, false, false, 0xffff_ffff),
+            Register::Unknown => Row::of(false, false, false, true, 0),
         }
     }
 }
