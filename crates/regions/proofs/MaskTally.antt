@@ -13,9 +13,9 @@ use Rattle.words.specs.Bit.{bit}
 use Rattle.words.proofs.Laws.{bit-zero, bit-ones, bit-pow}
 use Rattle.words.proofs.Ops.{bit-and, bit-or}
 use Rattle.access.specs.declared.kind.Kind.{Kind}
-use Rattle.regions.specs.Words.{base, sub}
-use Rattle.regions.specs.Rules.{covers, debugger, srcid, workingSec, workingPriv}
-use Rattle.regions.specs.Tally.{tally, added, subAdded, withBase, baseAllows}
+use Rattle.regions.specs.Words.{base, sub, rdenBit, wrenBit}
+use Rattle.regions.specs.Rules.{covers, passes, wordsGrant, srcid, workingSec, workingPriv}
+use Rattle.regions.specs.Tally.{tally, added, subAdded, withBase}
 use Rattle.regions.specs.Masks.{masks, baseGathered, subGathered, withWords, withSrcid, tallyOf}
 use Rattle.regions.specs.declared.masks.Masks.{Masks}
 use Rattle.regions.specs.declared.rules.Tally.{Tally}
@@ -88,7 +88,7 @@ module _ (k : Kind) where
   tally-cond false l m = refl
 
   words-tally : (cfgr cidcfgr : ℕ) (m : Masks)
-      → tallyOf (withWords cfgr cidcfgr m) k ≡ withBase (baseAllows cfgr cidcfgr k) (tallyOf m k)
+      → tallyOf (withWords cfgr cidcfgr m) k ≡ withBase (wordsGrant cfgr cidcfgr k) (tallyOf m k)
   unfolding tallyOf
   words-tally cfgr cidcfgr m =
       let c = k .cid .0 in
@@ -99,7 +99,7 @@ module _ (k : Kind) where
         bit-and (m .cidcfgr) cidcfgr (16 + c),
         bit-and (m .cidcfgr) cidcfgr c,
       )
-      (granted-more (k .secure) (k .privileged) (debugger k) (k .write) (m .sec) (bit (m .cfgr) 8) (bit (m .cfgr) (16 + c))
+      (granted-more (k .secure) (k .privileged) (passes k) (k .write) (m .sec) (bit (m .cfgr) 8) (bit (m .cfgr) (16 + c))
       (bit (m .cidcfgr) (16 + c)) (bit (m .cidcfgr) c) (bit cfgr 8) (bit cfgr (16 + c)) (bit cidcfgr (16 + c))
       (bit cidcfgr c)))
     where
@@ -119,12 +119,12 @@ module _ (k : Kind) where
     unfolding tallyOf subGathered subAdded
     sub-tally s m =
         let c = k .cid .0 in
-        let i = srcid w x s in
+        let i = srcid w x s .0 in
         tally-cond (covers w (sub x s) o) _ m
         ∙ ap (λ (b : Bool). cond (covers w (sub x s) o) (with b) (tallyOf m k))
         (ap₂ (cond (k .write)) (bit-srcid (m .writes) i _ c) (bit-srcid (m .reads) i _ c)
-        ∙ opened-more (k .write) (eqb i c || debugger k) (bit (m .writes) c) (bit (m .reads) c)
-        (bit (getD w (sub x s) 0) 13) (bit (getD w (sub x s) 0) 12))
+        ∙ opened-more (k .write) (eqb i c || passes k) (bit (m .writes) c) (bit (m .reads) c)
+        (bit (getD w (sub x s) 0) wrenBit) (bit (getD w (sub x s) 0) rdenBit))
       where
         with : Bool → Tally
         with b =

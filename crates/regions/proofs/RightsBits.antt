@@ -7,7 +7,7 @@ use native.Mathlib.Omega.{arith}
 use lib.Dec.{eqb}
 use Rattle.words.specs.Bit.{bit, one}
 use Rattle.words.proofs.Laws.{bit-word}
-use Rattle.access.specs.Kind.{kindOf, placeOf}
+use Rattle.access.specs.Kind.{kindOf, rightsBit}
 use Rattle.access.specs.declared.kind.Kind.{Kind}
 use Rattle.regions.specs.Rights.{rights}
 use Rattle.regions.specs.Rules.{decided}
@@ -15,7 +15,7 @@ use Rattle.regions.proofs.Digits.{one-most, one-is}
 
 -- ---- a kind of asking and its place
 
-pub place-lt : (k : Kind) → k .cid .0 ≤ 7 → placeOf k < 64
+pub place-lt : (k : Kind) → k .cid .0 ≤ 7 → rightsBit k < 64
 place-lt k h = omega (arith, one-most (k .write), one-most (k .privileged), one-most (k .secure))
 
 kind-same : {c d : ℕ} {w x p q s t : Bool} → c ≡ d → w ≡ x → p ≡ q → s ≡ t
@@ -23,27 +23,27 @@ kind-same : {c d : ℕ} {w x p q s t : Bool} → c ≡ d → w ≡ x → p ≡ q
     (record { cid = record { 0 = d }; write = x; privileged = q; secure = t })
 kind-same e f g h = cc
 
-pub kind-place : (k : Kind) → k .cid .0 ≤ 7 → kindOf (placeOf k) ≡ k
+pub kind-place : (k : Kind) → k .cid .0 ≤ 7 → kindOf (rightsBit k) ≡ k
 kind-place k h = kind-same cid (is 3 (k .write) write) (is 4 (k .privileged) privileged) (is 5 (k .secure) secure)
   where
-    is : (j : ℕ) (b : Bool) → placeOf k / 2 ^ j % 2 ≡ one b → bit (placeOf k) j ≡ b
+    is : (j : ℕ) (b : Bool) → rightsBit k / 2 ^ j % 2 ≡ one b → bit (rightsBit k) j ≡ b
     is j b e = ap (λ (d : ℕ). eqb d 1) e ∙ one-is b
 
-    cid : placeOf k % 8 ≡ k .cid .0
+    cid : rightsBit k % 8 ≡ k .cid .0
     cid = omega (arith, one-most (k .write), one-most (k .privileged), one-most (k .secure))
 
-    write : placeOf k / 2 ^ 3 % 2 ≡ one (k .write)
+    write : rightsBit k / 2 ^ 3 % 2 ≡ one (k .write)
     write = omega (arith, one-most (k .write), one-most (k .privileged), one-most (k .secure))
 
-    privileged : placeOf k / 2 ^ 4 % 2 ≡ one (k .privileged)
+    privileged : rightsBit k / 2 ^ 4 % 2 ≡ one (k .privileged)
     privileged = omega (arith, one-most (k .write), one-most (k .privileged), one-most (k .secure))
 
-    secure : placeOf k / 2 ^ 5 % 2 ≡ one (k .secure)
+    secure : rightsBit k / 2 ^ 5 % 2 ≡ one (k .secure)
     secure = omega (arith, one-most (k .write), one-most (k .privileged), one-most (k .secure))
 
 pub rights-bit : (w : List ℕ) (n o : ℕ) (k : Kind) → k .cid .0 ≤ 7
-    → bit (rights w n o) (placeOf k) ≡ decided w n o k .granted
+    → bit (rights w n o) (rightsBit k) ≡ decided w n o k .granted
 unfolding rights
 rights-bit w n o k h =
-    bit-word 64 (λ b. decided w n o (kindOf b) .granted) (placeOf k) (place-lt k h)
+    bit-word 64 (λ b. decided w n o (kindOf b) .granted) (rightsBit k) (place-lt k h)
     ∙ ap (λ (q : Kind). decided w n o q .granted) (kind-place k h)

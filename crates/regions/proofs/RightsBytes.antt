@@ -12,7 +12,7 @@ use lib.Pow.{pow-add}
 use Rattle.words.specs.Bit.{bit, one, word}
 use Rattle.words.proofs.Laws.{bit-mod, bit-pow, bit-shr, bit-word, bit-zero, word-cong, word-ext, word-lt, word-zero}
 use Rattle.words.proofs.Ops.{bit-and, bit-not, bit-or}
-use Rattle.access.specs.Kind.{kindOf, placeOf}
+use Rattle.access.specs.Kind.{kindOf, rightsBit}
 use Rattle.access.specs.declared.kind.Kind.{Kind}
 use Rattle.regions.specs.Masks.{masks, tallyOf, rightsFrom, byteAt, openTo}
 use Rattle.regions.specs.Rights.{rights}
@@ -121,7 +121,7 @@ module _ (m : Masks) (w p s : Bool) where
   byte-by reads writes closed may h =
       word-cong 8 _ _
       (λ c l.
-      let e : byteAt w p s + c ≡ placeOf (asking c) = omega arith in
+      let e : byteAt w p s + c ≡ rightsBit (asking c) = omega arith in
       h c l ∙ ap (grants m) (sym (ap kindOf e ∙ kind-place (asking c) (omega arith))))
 
   pub byte-subs : m .counted ≡ true

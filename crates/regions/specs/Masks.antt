@@ -1,15 +1,15 @@
 -- What the code of the rights word goes by: what the base regions say to all eight compartments at once, bit c of a mask for CID c,
--- and the bytes made of that. The meaning is that of Rules.antt and Rights.antt.
+-- and the bytes made of that. The word made of them is Rights.antt's (rights-masks in proofs/RightsBytes).
 use mathlib.Core.Bool.{Bool, true, false, not, _&&_, _||_, cond}
 use mathlib.Core.List.{List}
 use Prim.Native.Nat.{ℕ, zero, suc, _+_, _-_, _*_, _^_}
 use lib.Bits.{bitAnd, bitOr}
 use lib.ListN.{getD}
 use Rattle.words.specs.Bit.{bit, one, word}
-use Rattle.access.specs.Kind.{kindOf}
+use Rattle.access.specs.Kind.{debugger, kindOf}
 use Rattle.access.specs.declared.kind.Kind.{Kind}
-use Rattle.regions.specs.Words.{base, sub}
-use Rattle.regions.specs.Rules.{covers, debugger, direction, srcid, workingSec, workingPriv}
+use Rattle.regions.specs.Words.{base, sub, cidcfgrAt, secBit, privcBit, rdenBit, wrenBit, readBit, writeBit}
+use Rattle.regions.specs.Rules.{covers, passes, direction, srcid, workingSec, workingPriv}
 use Rattle.regions.specs.Tally.{judged}
 use Rattle.regions.specs.declared.masks.Masks.{Masks}
 use Rattle.regions.specs.declared.rules.Tally.{Tally}
@@ -18,7 +18,7 @@ use Rattle.regions.specs.declared.rules.Tally.{Tally}
 
 -- the compartments of a mask and, where b holds, that of SRCID i and the debugger's
 unfoldable pub withSrcid : ℕ → ℕ → Bool → ℕ
-withSrcid mask i b = cond b (bitOr (bitOr mask (2 ^ i)) (2 ^ 7)) mask
+withSrcid mask i b = cond b (bitOr (bitOr mask (2 ^ i)) (2 ^ (debugger .0))) mask
 
 -- with subregion s of a base region that covers
 unfoldable pub subGathered : List ℕ → ℕ → ℕ → ℕ → Masks → Masks
@@ -32,8 +32,8 @@ subGathered w x s o m =
       counted = true;
       secure = m .secure && workingSec w x s;
       privileged = m .privileged && workingPriv w x s;
-      reads = withSrcid (m .reads) (srcid w x s) (bit (getD w (sub x s) 0) 12);
-      writes = withSrcid (m .writes) (srcid w x s) (bit (getD w (sub x s) 0) 13);
+      reads = withSrcid (m .reads) (srcid w x s .0) (bit (getD w (sub x s) 0) rdenBit);
+      writes = withSrcid (m .writes) (srcid w x s .0) (bit (getD w (sub x s) 0) wrenBit);
     })
     m
 
@@ -42,7 +42,7 @@ abbrev pub withWords : ℕ → ℕ → Masks → Masks
 withWords cfgr cidcfgr m =
     record {
       covered = true;
-      sec = m .sec && bit cfgr 8;
+      sec = m .sec && bit cfgr secBit;
       cfgr = bitOr (m .cfgr) cfgr;
       cidcfgr = bitAnd (m .cidcfgr) cidcfgr;
       counted = m .counted;
@@ -56,7 +56,7 @@ withWords cfgr cidcfgr m =
 unfoldable pub baseGathered : List ℕ → ℕ → ℕ → Masks → Masks
 baseGathered w x o m =
     cond (covers w (base x) o)
-    (subGathered w x 1 o (subGathered w x 0 o (withWords (getD w (base x) 0) (getD w (base x + 3) 0) m)))
+    (subGathered w x 1 o (subGathered w x 0 o (withWords (getD w (base x) 0) (getD w (base x + cidcfgrAt) 0) m)))
     m
 
 -- what n base regions say
@@ -83,9 +83,9 @@ tallyOf m k =
     record {
       covered = m .covered;
       granted =
-          cond (k .secure) (m .sec) (not (bit (m .cfgr) 8))
-          && (k .privileged || not (bit (m .cfgr) (16 + k .cid .0)))
-          && (debugger k || direction k (bit (m .cidcfgr) (16 + k .cid .0)) (bit (m .cidcfgr) (k .cid .0)));
+          cond (k .secure) (m .sec) (not (bit (m .cfgr) secBit))
+          && (k .privileged || not (bit (m .cfgr) (privcBit (k .cid .0))))
+          && (passes k || direction k (bit (m .cidcfgr) (writeBit (k .cid .0))) (bit (m .cidcfgr) (readBit (k .cid .0))));
       counted = m .counted;
       secure = m .secure;
       privileged = m .privileged;

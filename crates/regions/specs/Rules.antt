@@ -3,28 +3,29 @@
 use mathlib.Core.Bool.{Bool, true, false, not, _&&_, _||_, cond, Bool·beq}
 use mathlib.Core.List.{List}
 use Prim.Native.Nat.{ℕ, _+_}
-use lib.Dec.{eqb}
 use lib.ListN.{getD}
 use Rattle.words.specs.Bit.{bit, field}
 use Rattle.access.specs.Fold.{any, all}
 use Rattle.access.specs.Offset.{within}
+use Rattle.access.specs.Kind.{equals, debugger}
+use Rattle.access.specs.declared.kind.Cid.{Cid}
 use Rattle.access.specs.declared.kind.Kind.{Kind}
-use Rattle.regions.specs.Words.{base, sub}
+use Rattle.regions.specs.Words.{startAt, endAt, cidcfgrAt, base, sub, enableBit, secBit, privcBit, srcidBit, privBit, rdenBit, wrenBit, readBit, writeBit}
 use Rattle.regions.specs.declared.rules.Verdict.{Verdict}
 
 -- ---- one region
 
 -- the region or subregion at p is enabled (BREN, SREN) and covers START to END, both included
 abbrev pub covers : List ℕ → ℕ → ℕ → Bool
-covers w p o = bit (getD w p 0) 0 && within (getD w (p + 1) 0) (getD w (p + 2) 0) o
+covers w p o = bit (getD w p 0) enableBit && within (getD w (p + startAt) 0) (getD w (p + endAt) 0) o
 
 -- subregion s of base region x counts where it and its base region are both enabled and both cover
 abbrev pub counts : List ℕ → ℕ → ℕ → ℕ → Bool
 counts w o x s = covers w (base x) o && covers w (sub x s) o
 
--- the debugger's CID passes every compartment test
-abbrev pub debugger : Kind → Bool
-debugger k = eqb (k .cid .0) 7
+-- CID 7 passes every compartment test
+abbrev pub passes : Kind → Bool
+passes k = equals (k .cid) debugger
 
 -- the bit for the direction, of a write bit and a read bit
 abbrev pub direction : Kind → Bool → Bool → Bool
@@ -32,18 +33,21 @@ direction k writes reads = cond (k .write) writes reads
 
 -- ---- rule 0
 
+-- secure, privileged, CID 1
 abbrev pub grants0 : Kind → Bool
-grants0 k = k .secure && k .privileged && (eqb (k .cid .0) 1 || debugger k)
+grants0 k = k .secure && k .privileged && (equals (k .cid) (record { 0 = 1 }) || passes k)
 
 -- ---- rule 1
 
--- SEC is bit 8 of CFGR, PRIVCc bit 16 + c; CIDCFGR has the read enable of c at c, the write enable at 16 + c
+-- a base region with these words grants: secure equals SEC; privileged or PRIVC of the CID is 0; the enable for CID and direction is 1
+abbrev pub wordsGrant : ℕ → ℕ → Kind → Bool
+wordsGrant cfgr cidcfgr k =
+    Bool·beq (k .secure) (bit cfgr secBit)
+    && (k .privileged || not (bit cfgr (privcBit (k .cid .0))))
+    && (passes k || direction k (bit cidcfgr (writeBit (k .cid .0))) (bit cidcfgr (readBit (k .cid .0))))
+
 abbrev pub baseGrants : List ℕ → Kind → ℕ → Bool
-baseGrants w k x =
-    Bool·beq (k .secure) (bit (getD w (base x) 0) 8)
-    && (k .privileged || not (bit (getD w (base x) 0) (16 + k .cid .0)))
-    && (debugger k
-    || direction k (bit (getD w (base x + 3) 0) (16 + k .cid .0)) (bit (getD w (base x + 3) 0) (k .cid .0)))
+baseGrants w k x = wordsGrant (getD w (base x) 0) (getD w (base x + cidcfgrAt) 0) k
 
 -- every enabled covering base region must grant
 abbrev pub grants1 : List ℕ → ℕ → ℕ → Kind → Bool
@@ -51,22 +55,22 @@ grants1 w n o k = all n (λ x. not (covers w (base x) o) || baseGrants w k x)
 
 -- ---- rule 2
 
-abbrev pub srcid : List ℕ → ℕ → ℕ → ℕ
-srcid w x s = field (getD w (sub x s) 0) 4 3
+abbrev pub srcid : List ℕ → ℕ → ℕ → Cid
+srcid w x s = record { 0 = field (getD w (sub x s) 0) srcidBit 3 }
 
--- working SEC: its SEC (8) and its base's SEC
+-- working SEC: its SEC and its base's SEC
 abbrev pub workingSec : List ℕ → ℕ → ℕ → Bool
-workingSec w x s = bit (getD w (sub x s) 0) 8 && bit (getD w (base x) 0) 8
+workingSec w x s = bit (getD w (sub x s) 0) secBit && bit (getD w (base x) 0) secBit
 
--- working PRIV: its PRIV (9) and its base's PRIVC for SRCID
+-- working PRIV: its PRIV and its base's PRIVC for SRCID
 abbrev pub workingPriv : List ℕ → ℕ → ℕ → Bool
-workingPriv w x s = bit (getD w (sub x s) 0) 9 && bit (getD w (base x) 0) (16 + srcid w x s)
+workingPriv w x s = bit (getD w (sub x s) 0) privBit && bit (getD w (base x) 0) (privcBit (srcid w x s .0))
 
--- its SRCID is the CID, and its direction is enabled (WREN 13, RDEN 12)
+-- its SRCID is the CID, and its direction is enabled
 abbrev pub opens : List ℕ → Kind → ℕ → ℕ → Bool
 opens w k x s =
-    (eqb (srcid w x s) (k .cid .0) || debugger k)
-    && direction k (bit (getD w (sub x s) 0) 13) (bit (getD w (sub x s) 0) 12)
+    (equals (srcid w x s) (k .cid) || passes k)
+    && direction k (bit (getD w (sub x s) 0) wrenBit) (bit (getD w (sub x s) 0) rdenBit)
 
 -- some, and every, subregion of n base regions
 abbrev pub anySub : ℕ → (ℕ → ℕ → Bool) → Bool

@@ -1,13 +1,12 @@
--- What the code of the rules adds up. The meaning is that of Rules.antt.
+-- What the code of the rules adds up: the verdict on the tally of n base regions is Rules.antt's (decided-judged in proofs/Tally).
 use mathlib.Core.Bool.{Bool, true, false, not, _&&_, _||_, cond, Bool·beq}
 use mathlib.Core.List.{List}
 use mathlib.Core.Path.{_≡_}
 use Prim.Native.Nat.{ℕ, _+_, _≤_, _<_}
-use Rattle.words.specs.Bit.{bit}
 use Rattle.access.specs.Fold.{any}
 use Rattle.access.specs.declared.kind.Kind.{Kind}
 use Rattle.regions.specs.Words.{base, sub}
-use Rattle.regions.specs.Rules.{covers, counts, debugger, direction, grants0, grants1, baseGrants, workingSec, workingPriv, opens, anySub, allSub}
+use Rattle.regions.specs.Rules.{covers, counts, grants0, grants1, baseGrants, workingSec, workingPriv, opens, anySub, allSub}
 use Rattle.regions.specs.declared.rules.Tally.{Tally}
 use Rattle.regions.specs.declared.rules.Verdict.{Verdict}
 
@@ -29,13 +28,6 @@ judged t k =
     cond (t .counted)
     (record { rule = 2; granted = Bool·beq (k .secure) (t .secure) && (k .privileged || not (t .privileged)) && t .opened })
     (cond (t .covered) (record { rule = 1; granted = t .granted }) (record { rule = 0; granted = grants0 k }))
-
--- rule 1 at a base region with these words
-abbrev pub baseAllows : ℕ → ℕ → Kind → Bool
-baseAllows cfgr cidcfgr k =
-    Bool·beq (k .secure) (bit cfgr 8)
-    && (k .privileged || not (bit cfgr (16 + k .cid .0)))
-    && (debugger k || direction k (bit cidcfgr (16 + k .cid .0)) (bit cidcfgr (k .cid .0)))
 
 -- with a subregion of a base region that covers: c says whether it covers too, the others what it says then
 abbrev pub withSub : Bool → Bool → Bool → Bool → Tally → Tally

@@ -1,6 +1,7 @@
 // What the regions of a guard grant: the verdict on an access, and the rights of all kinds of asking in one word.
 mod masks;
-pub mod rights;
+pub mod places;
+mod rights;
 pub mod rules;
 
 pub use rights::rights_at;

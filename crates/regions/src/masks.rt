@@ -1,7 +1,21 @@
+use crate::places::BASE_WORDS;
+use crate::places::CIDCFGR;
+use crate::places::COMPARTMENTS;
+use crate::places::PRIV;
+use crate::places::PRIVC;
+use crate::places::RDEN;
+use crate::places::REGION_WORDS;
+use crate::places::SEC;
+use crate::places::SRCID;
+use crate::places::SUBREGION_WORDS;
+use crate::places::WREN;
 use crate::rules::covers;
+use access::Cid;
+use access::DEBUGGER;
 ghost use mathlib.Core.Path.{_≡_};
 ghost use Prim.Native.Nat.{_+_, _*_, _≤_, _<_};
 ghost use lib.ListN.{length};
+ghost use Rattle.regions.specs.Words.{base, regionWords};
 ghost use Rattle.regions.specs.Masks.{baseGathered, masks, subGathered, withSrcid};
 
 // What the base regions that were looked at say to all eight compartments: bit c of a mask is CID c.
@@ -21,38 +35,39 @@ pub(crate) struct Masks {
 }
 
 // The mask with the compartment of a SRCID, and CID 7, where the direction is enabled.
-fn with_srcid(mask: u32, srcid: u32, enabled: bool) -> u32
-    requires { ⌜ srcid < 8 ⌝ }
-    ensures { λ r. ⌜ r ≡ withSrcid mask srcid enabled ⌝ }
+fn with_srcid(mask: u32, srcid: Cid, enabled: bool) -> u32
+    requires { ⌜ srcid .0 < 8 ⌝ }
+    ensures { λ r. ⌜ r ≡ withSrcid mask (srcid .0) enabled ⌝ }
 {
     if !enabled {
         return mask;
     }
-    mask | (1 << srcid) | 0x80
+    mask | (1 << srcid.0) | (1 << DEBUGGER.0)
 }
 
 // With what subregion s of base region x, which covers, says.
 fn sub_gathered(w: &[u32], x: usize, s: usize, o: u32, m: Masks) -> Masks
-    requires { ⌜ (12 * x + 12 ≤ length (now w)) × (s < 2) ⌝ }
+    requires { ⌜ (base x + regionWords ≤ length (now w)) × (s < 2) ⌝ }
     ensures { λ r. ⌜ r ≡ subGathered (now (w .entry)) x s o m ⌝ }
 {
-    let p = 12 * x + 4 + 4 * s;
+    let p = REGION_WORDS * x + BASE_WORDS + SUBREGION_WORDS * s;
     if !covers(w, p, o) {
         return m;
     }
-    let base = w[12 * x];
+    let base = w[REGION_WORDS * x];
     let sub = w[p];
-    let srcid = (sub >> 4) % 8;
-    let reads = with_srcid(m.reads, srcid, (sub >> 12) % 2 == 1);
-    let writes = with_srcid(m.writes, srcid, (sub >> 13) % 2 == 1);
+    let srcid = Cid((sub >> SRCID) % COMPARTMENTS);
+    let reads = with_srcid(m.reads, srcid, (sub >> RDEN) % 2 == 1);
+    let writes = with_srcid(m.writes, srcid, (sub >> WREN) % 2 == 1);
     Masks {
         covered: m.covered,
         sec: m.sec,
         cfgr: m.cfgr,
         cidcfgr: m.cidcfgr,
         counted: true,
-        secure: m.secure & (((sub >> 8) % 2 == 1) & ((base >> 8) % 2 == 1)),
-        privileged: m.privileged & (((sub >> 9) % 2 == 1) & ((base >> (16 + srcid)) % 2 == 1)),
+        secure: m.secure & (((sub >> SEC) % 2 == 1) & ((base >> SEC) % 2 == 1)),
+        privileged: m.privileged
+            & (((sub >> PRIV) % 2 == 1) & ((base >> (PRIVC + srcid.0)) % 2 == 1)),
         reads,
         writes,
     }
@@ -60,19 +75,19 @@ fn sub_gathered(w: &[u32], x: usize, s: usize, o: u32, m: Masks) -> Masks
 
 // With what base region x and its subregions say: nothing where it does not cover.
 fn base_gathered(w: &[u32], x: usize, o: u32, m: Masks) -> Masks
-    requires { ⌜ 12 * x + 12 ≤ length (now w) ⌝ }
+    requires { ⌜ base x + regionWords ≤ length (now w) ⌝ }
     ensures { λ r. ⌜ r ≡ baseGathered (now (w .entry)) x o m ⌝ }
 {
-    let b = 12 * x;
+    let b = REGION_WORDS * x;
     if !covers(w, b, o) {
         return m;
     }
     let cfgr = w[b];
     let based = Masks {
         covered: true,
-        sec: m.sec & ((cfgr >> 8) % 2 == 1),
+        sec: m.sec & ((cfgr >> SEC) % 2 == 1),
         cfgr: m.cfgr | cfgr,
-        cidcfgr: m.cidcfgr & w[b + 3],
+        cidcfgr: m.cidcfgr & w[b + CIDCFGR],
         counted: m.counted,
         secure: m.secure,
         privileged: m.privileged,
@@ -84,7 +99,7 @@ fn base_gathered(w: &[u32], x: usize, o: u32, m: Masks) -> Masks
 
 // What the first n base regions say.
 pub(crate) fn gathered(w: &[u32], n: usize, o: u32) -> Masks
-    requires { ⌜ 12 * n ≤ length (now w) ⌝ }
+    requires { ⌜ base n ≤ length (now w) ⌝ }
     ensures { λ r. ⌜ r ≡ masks (now (w .entry)) n o ⌝ }
 {
     let mut m = Masks {

@@ -1,9 +1,19 @@
 use crate::masks::Masks;
 use crate::masks::gathered;
+use crate::places::MOST_REGIONS;
+use crate::places::PRIVC;
+use crate::places::REGION_WORDS;
+use crate::places::SEC;
+use crate::places::WRITES;
 ghost use mathlib.Core.Bool.{false, cond};
 ghost use mathlib.Core.Path.{_≡_};
 ghost use Rattle.regions.specs.Lent.{rightsIn};
 ghost use Rattle.regions.specs.Masks.{byteAt, openTo, rightsFrom};
+
+// The compartments that pass every compartment test, the debugger's, and those that rule 0 admits.
+const ALWAYS: u32 = 0x80;
+
+const DEFAULTS: u32 = 0x82;
 
 // The compartments with the bit of the direction that are not closed: none where may is false.
 fn open_to(reads: u32, writes: u32, closed: u32, write: bool, may: bool) -> u32
@@ -37,11 +47,17 @@ fn byte(m: Masks, write: bool, privileged: bool, secure: bool) -> u32
         return open_to(m.reads, m.writes, 0, write, may);
     }
     if !m.covered {
-        return open_to(0x82, 0x82, 0, write, secure & privileged);
+        return open_to(DEFAULTS, DEFAULTS, 0, write, secure & privileged);
     }
-    let may = (secure & m.sec) | !(secure | ((m.cfgr >> 8) % 2 == 1));
-    let shut = closed(m.cfgr >> 16, privileged);
-    open_to(m.cidcfgr | 0x80, (m.cidcfgr >> 16) | 0x80, shut, write, may)
+    let may = (secure & m.sec) | !(secure | ((m.cfgr >> SEC) % 2 == 1));
+    let shut = closed(m.cfgr >> PRIVC, privileged);
+    open_to(
+        m.cidcfgr | ALWAYS,
+        (m.cidcfgr >> WRITES) | ALWAYS,
+        shut,
+        write,
+        may,
+    )
 }
 
 // The two bytes of a privilege and a security.
@@ -62,10 +78,10 @@ fn half(m: Masks, secure: bool) -> u32
 pub fn rights_at(w: &[u32], n: usize, o: u32) -> u64
     ensures { λ r. ⌜ r ≡ rightsIn (now (w .entry)) n o ⌝ }
 {
-    if 11 < n {
+    if MOST_REGIONS < n {
         return 0;
     }
-    if w.len() < 12 * n {
+    if w.len() < REGION_WORDS * n {
         return 0;
     }
     let m = gathered(w, n, o);

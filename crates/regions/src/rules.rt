@@ -1,18 +1,40 @@
+use crate::places::BASE_WORDS;
+use crate::places::CIDCFGR;
+use crate::places::COMPARTMENTS;
+use crate::places::ENABLE;
+use crate::places::END;
+use crate::places::MOST_REGIONS;
+use crate::places::PRIV;
+use crate::places::PRIVC;
+use crate::places::RDEN;
+use crate::places::REGION_WORDS;
+use crate::places::SEC;
+use crate::places::SRCID;
+use crate::places::START;
+use crate::places::SUBREGION_WORDS;
+use crate::places::WREN;
+use crate::places::WRITES;
+use access::Cid;
+use access::DEBUGGER;
 use access::Kind;
 ghost use mathlib.Core.Bool.{true};
 ghost use mathlib.Core.Path.{_≡_};
 ghost use Prim.Native.Nat.{_+_, _*_, _≤_, _<_};
 ghost use lib.ListN.{length};
 ghost use Rattle.regions.specs.Lent.{decidedIn};
-ghost use Rattle.regions.specs.Words.{base};
-ghost use Rattle.regions.specs.Rules.{covers};
-ghost use Rattle.regions.specs.Tally.{Next, added, baseAllows, judged, subAdded, tally};
+ghost use Rattle.regions.specs.Words.{base, endAt, regionWords};
+ghost use Rattle.regions.specs.Rules.{covers, wordsGrant};
+ghost use Rattle.regions.specs.Tally.{Next, added, judged, subAdded, tally};
+ghost use Rattle.access.specs.Kind.{debugger};
 
 // The rule that governs an offset (0 default, 1 base region, 2 subregion), and whether it grants.
 pub struct Verdict {
     pub rule: u32,
     pub granted: bool,
 }
+
+// The compartment that rule 0 admits.
+const DEFAULT: Cid = Cid(1);
 
 // What the base regions that were looked at say.
 struct Tally {
@@ -28,61 +50,62 @@ struct Tally {
 
 // The region or subregion at p is enabled and covers the offset.
 pub(crate) fn covers(w: &[u32], p: usize, o: u32) -> bool
-    requires { ⌜ p + 2 < length (now w) ⌝ }
+    requires { ⌜ p + endAt < length (now w) ⌝ }
     ensures { λ r. ⌜ r ≡ covers (now (w .entry)) p o ⌝ }
 {
-    if (w[p] >> 0) % 2 != 1 {
+    if (w[p] >> ENABLE) % 2 != 1 {
         return false;
     }
-    (w[p + 1] <= o) & (o <= w[p + 2])
+    (w[p + START] <= o) & (o <= w[p + END])
 }
 
 // Rule 1 at a base region with these words.
-fn base_allows(cfgr: u32, cidcfgr: u32, k: Kind) -> bool
-    requires { ⌜ k .cid .0 ≤ 7 ⌝ }
-    ensures { λ r. ⌜ r ≡ baseAllows cfgr cidcfgr k ⌝ }
+fn words_grant(cfgr: u32, cidcfgr: u32, k: Kind) -> bool
+    requires { ⌜ k .cid .0 ≤ debugger .0 ⌝ }
+    ensures { λ r. ⌜ r ≡ wordsGrant cfgr cidcfgr k ⌝ }
 {
     let cid = k.cid.0;
     let reads = (cidcfgr >> cid) % 2 == 1;
-    let writes = (cidcfgr >> (16 + cid)) % 2 == 1;
-    (k.secure == ((cfgr >> 8) % 2 == 1))
-        & (k.privileged | !((cfgr >> (16 + cid)) % 2 == 1))
-        & ((cid == 7) | ((reads & !k.write) | (k.write & writes)))
+    let writes = (cidcfgr >> (WRITES + cid)) % 2 == 1;
+    (k.secure == ((cfgr >> SEC) % 2 == 1))
+        & (k.privileged | !((cfgr >> (PRIVC + cid)) % 2 == 1))
+        & (k.cid.equals(DEBUGGER) | ((reads & !k.write) | (k.write & writes)))
 }
 
 // With what subregion s of base region x, which covers, says.
 fn sub_added(w: &[u32], x: usize, s: usize, o: u32, k: Kind, t: Tally) -> Tally
-    requires { ⌜ (12 * x + 12 ≤ length (now w)) × (s < 2) ⌝ }
+    requires { ⌜ (base x + regionWords ≤ length (now w)) × (s < 2) ⌝ }
     ensures { λ r. ⌜ r ≡ subAdded (now (w .entry)) x s o k t ⌝ }
 {
-    let p = 12 * x + 4 + 4 * s;
+    let p = REGION_WORDS * x + BASE_WORDS + SUBREGION_WORDS * s;
     if !covers(w, p, o) {
         return t;
     }
-    let base = w[12 * x];
+    let base = w[REGION_WORDS * x];
     let sub = w[p];
-    let cid = k.cid.0;
-    let srcid = (sub >> 4) % 8;
-    let reads = (sub >> 12) % 2 == 1;
-    let writes = (sub >> 13) % 2 == 1;
+    let srcid = Cid((sub >> SRCID) % COMPARTMENTS);
+    let reads = (sub >> RDEN) % 2 == 1;
+    let writes = (sub >> WREN) % 2 == 1;
     Tally {
         covered: t.covered,
         granted: t.granted,
         counted: true,
-        secure: t.secure & (((sub >> 8) % 2 == 1) & ((base >> 8) % 2 == 1)),
-        privileged: t.privileged & (((sub >> 9) % 2 == 1) & ((base >> (16 + srcid)) % 2 == 1)),
+        secure: t.secure & (((sub >> SEC) % 2 == 1) & ((base >> SEC) % 2 == 1)),
+        privileged: t.privileged
+            & (((sub >> PRIV) % 2 == 1) & ((base >> (PRIVC + srcid.0)) % 2 == 1)),
         opened: t.opened
-            | (((srcid == cid) | (cid == 7)) & ((reads & !k.write) | (k.write & writes))),
+            | ((srcid.equals(k.cid) | k.cid.equals(DEBUGGER))
+                & ((reads & !k.write) | (k.write & writes))),
     }
 }
 
 // With what base region x, which covers, and its subregions say.
 fn added(w: &[u32], x: usize, o: u32, k: Kind, t: Tally) -> Tally
-    requires { ⌜ (12 * x + 12 ≤ length (now w)) × (k .cid .0 ≤ 7) × (covers (now w) (base x) o ≡ true) ⌝ }
+    requires { ⌜ (base x + regionWords ≤ length (now w)) × (k .cid .0 ≤ debugger .0) × (covers (now w) (base x) o ≡ true) ⌝ }
     ensures { λ r. ⌜ r ≡ added (now (w .entry)) x o k t ⌝ }
 {
-    let b = 12 * x;
-    let granted = t.granted & base_allows(w[b], w[b + 3], k);
+    let b = REGION_WORDS * x;
+    let granted = t.granted & words_grant(w[b], w[b + CIDCFGR], k);
     let based = Tally {
         covered: true,
         granted,
@@ -96,12 +119,12 @@ fn added(w: &[u32], x: usize, o: u32, k: Kind, t: Tally) -> Tally
 
 // The next base region from `from` on that covers the offset, or n.
 fn next_covering(w: &[u32], from: usize, n: usize, o: u32) -> usize
-    requires { ⌜ (from ≤ n) × (12 * n ≤ length (now w)) ⌝ }
+    requires { ⌜ (from ≤ n) × (base n ≤ length (now w)) ⌝ }
     ensures { λ r. ⌜ Next (now (w .entry)) o from n r ⌝ }
 {
     let mut x = from;
     while x < n {
-        if covers(w, 12 * x, o) {
+        if covers(w, REGION_WORDS * x, o) {
             return x;
         }
         x += 1;
@@ -111,7 +134,7 @@ fn next_covering(w: &[u32], from: usize, n: usize, o: u32) -> usize
 
 // What the first n base regions say.
 fn tallied(w: &[u32], n: usize, o: u32, k: Kind) -> Tally
-    requires { ⌜ (12 * n ≤ length (now w)) × (k .cid .0 ≤ 7) ⌝ }
+    requires { ⌜ (base n ≤ length (now w)) × (k .cid .0 ≤ debugger .0) ⌝ }
     ensures { λ r. ⌜ r ≡ tally (now (w .entry)) n o k ⌝ }
 {
     let mut t = Tally {
@@ -146,10 +169,9 @@ fn judged(t: Tally, k: Kind) -> Verdict
             granted: t.granted,
         };
     }
-    let cid = k.cid.0;
     Verdict {
         rule: 0,
-        granted: k.secure & k.privileged & ((cid == 1) | (cid == 7)),
+        granted: k.secure & k.privileged & (k.cid.equals(DEFAULT) | k.cid.equals(DEBUGGER)),
     }
 }
 
@@ -161,13 +183,13 @@ pub fn decide(w: &[u32], n: usize, o: u32, k: Kind) -> Verdict
         rule: 0,
         granted: false,
     };
-    if 11 < n {
+    if MOST_REGIONS < n {
         return nothing;
     }
-    if w.len() < 12 * n {
+    if w.len() < REGION_WORDS * n {
         return nothing;
     }
-    if 7 < k.cid.0 {
+    if DEBUGGER.0 < k.cid.0 {
         return nothing;
     }
     judged(tallied(w, n, o, k), k)

@@ -11,7 +11,7 @@ returns c = simp (← c .before .covers .ensures, not-true (c .before .covers .r
 returns-2 : tie.Need-returns-2
 unfolding subGathered
 returns-2 c =
-    let d = c .before .before in
+    let d = c .before .before .before in
     let b = d .before .before .before .before in
     simp (
       ← b .before .covers .ensures,

@@ -5,7 +5,7 @@ use Rattle.regions.proofs.rules.added.Tie as tie
 
 returns : tie.Need-returns
 returns c =
-    added-covered _ _ _ _ _ (c .before .before .before .before .before .before .before .pre .2) (c .before .before .before .base-allows .ensures) (c .before .sub-added .ensures)
+    added-covered _ _ _ _ _ (c .before .before .before .before .before .before .before .pre .2) (c .before .before .before .words-grant .ensures) (c .before .sub-added .ensures)
     (c .sub-added2 .ensures)
 
 pub added-spec : {M : Type 1} → statement M

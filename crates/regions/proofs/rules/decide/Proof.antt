@@ -19,14 +19,14 @@ returns-2 c = simp (le-leb _ _ (c .before .if1 .left), lt-leb _ _ (c .if2 .taken
 returns-3 : tie.Need-returns-3
 unfolding decidedIn
 returns-3 c =
-    let b = c .before .before in
+    let b = c .before .before .before in
     simp (le-leb _ _ (b .before .if1 .left), le-leb _ _ (b .if2 .left), lt-leb _ _ (c .if3 .taken))
 
 returns-4 : tie.Need-returns-4
 unfolding decidedIn
 returns-4 c =
     let d = c .before .before in
-    let b = d .before .before in
+    let b = d .before .before .before in
     let a = b .before .before .before .args in
     simp (le-leb _ _ (b .before .if1 .left), le-leb _ _ (b .if2 .left), le-leb _ _ (d .if3 .left))
     (c .judged .ensures ∙ ap (λ (t : Tally). judged t (a .k)) (c .before .tallied .ensures) ∙ sym (decided-judged _ _ _ _))
