@@ -1,9 +1,4 @@
-pub mod Each
-pub mod FormLaws
 pub mod MemoryAnswer
-pub mod Outcomes
-pub mod PortSteps
+pub mod PortLaws
 pub mod RegisterMap
 pub mod Shapes
-pub mod Slots
-pub mod Stores

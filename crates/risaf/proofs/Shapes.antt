@@ -1,92 +1,105 @@
--- The table of guards, by ranges of the number.
-use mathlib.Core.Bool.{Bool, true, false, cond, and-false}
-use mathlib.Core.Path.{_≡_}
-use Prim.Native.Nat.{ℕ, _^_, _≤_, _<_}
-use native.Mathlib.Decide.{decLt}
+-- What holds of each row of the table of guards holds of every guard's shape.
+use mathlib.Core.Bool.{Bool, true, false, _&&_, cond}
+use mathlib.Core.List.{List, [], _∷_}
+use mathlib.Core.Path.{_≡_, refl, sym, ap, _∙_}
+use Prim.Native.Nat.{ℕ, zero, suc, _+_, _^_, _≤_, _<_}
 use native.Mathlib.Omega.{arith}
-use lib.Dec.{leb, eqb, lit≤}
-use borrow.Author.Tests.{le-leb, lt-leb, ne-eqb}
-use Rattle.access.specs.Offset.{within}
-use Rattle.risaf.specs.Guards.{isGuard, shapeOf}
+use lib.Dec.{eqb, leb, lit≤, lit<}
+use lib.ListN.{length, getD}
+use borrow.Author.Tests.{leb-true, eqb-true}
+use Rattle.regions.specs.Words.{mostRegions}
+use Rattle.risaf.specs.Guards.{Row, guards, guardCount, shaped, flagOf, shapeIn, shapeOf, isGuard}
 use Rattle.risaf.specs.declared.guards.Shape.{Shape}
 
--- ---- a number in a range and out of it
+-- a row past the table's end
+abbrev noRow : Row
+noRow = record { number = 0; regions = 0; window = 0 }
 
-pub inside : (a b n : ℕ) → a ≤ n → n ≤ b → within a b n ≡ true
-inside a b n l m = simp (le-leb a n l, le-leb n b m)
+abbrev rowAt : List Row → ℕ → Row
+rowAt gs i = getD gs i noRow
 
-pub outside : (a b n : ℕ) → (a ≤ n → b < n) → within a b n ≡ false
-outside a b n out = go (decLt n a)
-  where
-    go : Dec (n < a) → within a b n ≡ false
-    go (yes l) = simp (lt-leb a n l)
-    go (no r) = simp (lt-leb n b (out (omega arith))) (and-false (leb a n))
+-- ---- by the rows of a table
 
--- ---- the rows
+module _ (P : Shape → Type 0) (n : ℕ) (none : P (record { there = false; place = 0; regions = 0; window = 0; flag = record { 0 = 0 } })) where
+  by-rows : (gs : List Row) (place : ℕ)
+      → ((i : ℕ) → i < length gs → n ≡ rowAt gs i .number
+      → P (shaped (place + i) (rowAt gs i .regions) (rowAt gs i .window) (flagOf n)))
+      → P (shapeIn gs place n)
+  unfolding shapeIn
+  by-rows [] place each = none
+  by-rows (g ∷ gs) place each = go (eqb n (g .number)) refl (by-rows gs (suc place) next)
+    where
+      next : (i : ℕ) → i < length gs → n ≡ rowAt gs i .number
+          → P (shaped (suc place + i) (rowAt gs i .regions) (rowAt gs i .window) (flagOf n))
+      next i h q =
+          let s : suc place + i ≡ place + suc i = omega arith in
+          rw s (each (suc i) (omega arith) q)
 
-module _ (n : ℕ) where
-  pub guard-1-9 : 1 ≤ n → n ≤ 9 → true ≡ isGuard n
-  unfolding isGuard
-  guard-1-9 l m = simp (inside 1 9 n l m)
+      go : (t : Bool) → eqb n (g .number) ≡ t → P (shapeIn gs (suc place) n)
+          → P (cond t (shaped place (g .regions) (g .window) (flagOf n)) (shapeIn gs (suc place) n))
+      go true e rest =
+          let z : place ≡ place + 0 = omega arith in
+          rw z (each 0 (omega arith) (eqb-true _ _ e))
+      go false e rest = rest
 
-  pub guard-11-14 : 11 ≤ n → n ≤ 14 → true ≡ isGuard n
-  unfolding isGuard
-  guard-11-14 l m = simp (outside 1 9 n (λ _. omega arith), inside 11 14 n l m)
-
-  pub no-guard : (1 ≤ n → 9 < n) → (11 ≤ n → 14 < n) → false ≡ isGuard n
-  unfolding isGuard
-  no-guard a b = simp (outside 1 9 n a, outside 11 14 n b)
-
-  pub shape-2-3 : 2 ≤ n → n ≤ 3 → record { regions = 7; window = 2 ^ 20 } ≡ shapeOf n
+  -- of guard n
+  pub by-guard : ((i : ℕ) → i < guardCount → n ≡ rowAt guards i .number
+      → P (shaped i (rowAt guards i .regions) (rowAt guards i .window) (flagOf n)))
+      → P (shapeOf n)
   unfolding shapeOf
-  shape-2-3 l m = simp (ne-eqb n 1 (λ e. omega arith), inside 2 3 n l m)
+  by-guard each = by-rows guards 0 (λ i h q. let z : 0 + i ≡ i = omega arith in rw z (each i h q))
 
-  pub shape-4-6 : 4 ≤ n → n ≤ 6 → record { regions = 11; window = 2 ^ 32 } ≡ shapeOf n
-  unfolding shapeOf
-  shape-4-6 l m = simp (ne-eqb n 1 (λ e. omega arith), outside 2 3 n (λ _. omega arith), inside 4 6 n l m)
+-- ---- a test that every row passes
 
-  pub shape-11-14 : 11 ≤ n → n ≤ 14 → record { regions = 7; window = 2 ^ 28 } ≡ shapeOf n
-  unfolding shapeOf
-  shape-11-14 l m =
-      simp (
-        ne-eqb n 1 (λ e. omega arith),
-        outside 2 3 n (λ _. omega arith),
-        outside 4 6 n (λ _. omega arith),
-        ne-eqb n 7 (λ e. omega arith),
-        ne-eqb n 8 (λ e. omega arith),
-        ne-eqb n 9 (λ e. omega arith),
-        inside 11 14 n l m,
-      )
+every : (Row → Bool) → List Row → Bool
+every t [] = true
+every t (g ∷ gs) = t g && every t gs
 
-  pub no-shape : (1 ≤ n → 9 < n) → (11 ≤ n → 14 < n) → record { regions = 0; window = 0 } ≡ shapeOf n
-  unfolding shapeOf
-  no-shape a b =
-      simp (
-        ne-eqb n 1 (λ e. omega (arith, a (omega arith))),
-        outside 2 3 n (λ l. omega (arith, a (omega arith))),
-        outside 4 6 n (λ l. omega (arith, a (omega arith))),
-        ne-eqb n 7 (λ e. omega (arith, a (omega arith))),
-        ne-eqb n 8 (λ e. omega (arith, a (omega arith))),
-        ne-eqb n 9 (λ e. omega (arith, a (omega arith))),
-        outside 11 14 n b,
-      )
+and-left : (a b : Bool) → (a && b) ≡ true → a ≡ true
+and-left true b e = refl
+and-left false b e = e
 
--- ---- no guard has more than 11 base regions
+and-right : (a b : Bool) → (a && b) ≡ true → b ≡ true
+and-right true b e = e
+and-right false b e = cc
 
-Few : Shape → Type 0
-Few s = s .regions ≤ 11
+passed : (t : Row → Bool) (gs : List Row) → every t gs ≡ true → (i : ℕ) → i < length gs → t (rowAt gs i) ≡ true
+unfolding every
+passed t [] e i h = absurd (omega arith)
+passed t (g ∷ gs) e zero h = and-left (t g) (every t gs) e
+passed t (g ∷ gs) e (suc i) h = passed t gs (and-right (t g) (every t gs) e) i (omega arith)
 
-few : (c : Bool) (a b : Shape) → Few a → Few b → Few (cond c a b)
-few true a b p q = p
-few false a b p q = q
+-- no more base regions than there can be, and a window of at most 2^32
+fits : Row → Bool
+fits g = leb (g .regions) mostRegions && leb (g .window) (2 ^ 32)
 
-pub regions-most : (n : ℕ) → shapeOf n .regions ≤ 11
-unfolding shapeOf Few
+all-fit : every fits guards ≡ true
+unfolding every fits
+all-fit = refl
+
+pub regions-most : (n : ℕ) → shapeOf n .regions ≤ mostRegions
+unfolding fits
 regions-most n =
-    few (eqb n 1) _ _ (lit≤ tt)
-    (few (within 2 3 n) _ _ (lit≤ tt)
-    (few (within 4 6 n) _ _ (lit≤ tt)
-    (few (eqb n 7) _ _ (lit≤ tt)
-    (few (eqb n 8) _ _ (lit≤ tt)
-    (few (eqb n 9) _ _ (lit≤ tt)
-    (few (within 11 14 n) _ _ (lit≤ tt) (lit≤ tt)))))))
+    by-guard (λ s. s .regions ≤ mostRegions) n (lit≤ tt) (λ i h q. leb-true _ _ (and-left _ _ (passed fits guards all-fit i h)))
+
+pub window-most : (n : ℕ) → shapeOf n .window ≤ 2 ^ 32
+unfolding fits
+window-most n =
+    by-guard (λ s. s .window ≤ 2 ^ 32) n (lit≤ tt)
+    (λ i h q. leb-true _ _ (and-right (leb (rowAt guards i .regions) mostRegions) _ (passed fits guards all-fit i h)))
+
+-- ---- places
+
+pub place-lt : (n : ℕ) → shapeOf n .place < guardCount
+place-lt n = by-guard (λ s. s .place < guardCount) n (lit< tt) (λ i h q. h)
+
+-- the number of the row at a guard's place is the guard's
+number-at : (n : ℕ) → isGuard n ≡ true → rowAt guards (shapeOf n .place) .number ≡ n
+number-at n = by-guard (λ s. s .there ≡ true → rowAt guards (s .place) .number ≡ n) n (λ e. cc) (λ i h q e. sym q)
+
+-- so guards at the same place are one
+pub place-one : (n m : ℕ) → isGuard n ≡ true → isGuard m ≡ true → shapeOf n .place ≡ shapeOf m .place → n ≡ m
+place-one n m g h e = sym (number-at n g) ∙ ap (λ (i : ℕ). rowAt guards i .number) e ∙ number-at m h
+
+pub flag-is : (n : ℕ) → isGuard n ≡ true → shapeOf n .flag .0 ≡ flagOf n
+flag-is n = by-guard (λ s. s .there ≡ true → s .flag .0 ≡ flagOf n) n (λ e. cc) (λ i h q e. refl)

@@ -1,72 +1,56 @@
--- A guard's registers as stored, and reset: document 01, "Guards".
+-- A guard's registers as stored, where each word lies, and reset: document 01, "Guards".
 use mathlib.Core.List.{List, [], _∷_, _++_}
-use Prim.Native.Nat.{ℕ, zero, suc, _+_, _-_}
-use lib.ListN.{getD, set}
-use Rattle.words.specs.Bit.{bit}
-use Rattle.regions.specs.Words.{base, sub}
-use Rattle.risaf.specs.Registers.{regionOf, subOf, granule}
-use Rattle.risaf.specs.declared.registers.Register.{Register}
-use Rattle.risaf.specs.declared.registers.Register.the-variants.{Cr, Iasr, Iacr, Iaesr, Iaddr, Cfgr, Start, End, Cidcfgr, SubCfgr, SubStart, SubEnd, Nest, Unknown}
+use Prim.Native.Nat.{ℕ, zero, suc, _+_, _-_, _*_}
+use lib.ListN.{getD, set, drop}
+use Rattle.regions.specs.Words.{mostRegions, regionWords}
 use Rattle.risaf.specs.declared.contents.Guard.{Guard}
-use Rattle.risaf.specs.declared.contents.Seen.{Seen}
 
--- word k of the regions
-abbrev pub regionWord : Guard → ℕ → ℕ
-regionWord g k = getD (g .regions) k 0
+-- ---- a guard's words: CR, IASR, IAESR, IADDR, then the regions'
 
-abbrev pub withRegionWord : Guard → ℕ → ℕ → Guard
-withRegionWord g k v =
-    record { cr = g .cr; iasr = g .iasr; iaesr = g .iaesr; iaddr = g .iaddr; regions = set (g .regions) k v }
+abbrev pub crAt : ℕ
+crAt = 0
 
-abbrev pub withIasr : Guard → ℕ → Guard
-withIasr g v = record { cr = g .cr; iasr = v; iaesr = g .iaesr; iaddr = g .iaddr; regions = g .regions }
+abbrev pub iasrAt : ℕ
+iasrAt = 1
 
--- the word stored for a register; IACR clears IASR's
-unfoldable pub stored : Guard → Register → ℕ
-stored g Cr = g .cr
-stored g Iasr = g .iasr
-stored g Iacr = g .iasr
-stored g Iaesr = g .iaesr
-stored g Iaddr = g .iaddr
-stored g (Cfgr x) = regionWord g (base x)
-stored g (Start x) = regionWord g (base x + 1)
-stored g (End x) = regionWord g (base x + 2)
-stored g (Cidcfgr x) = regionWord g (base x + 3)
-stored g (SubCfgr x s) = regionWord g (sub x s)
-stored g (SubStart x s) = regionWord g (sub x s + 1)
-stored g (SubEnd x s) = regionWord g (sub x s + 2)
-stored g (Nest x s) = regionWord g (sub x s + 3)
-stored g Unknown = 0
+abbrev pub iaesrAt : ℕ
+iaesrAt = 2
 
--- the guard with another word stored for a register that can be written
-unfoldable pub withStored : Guard → Register → ℕ → Guard
-withStored g Cr v = record { cr = v; iasr = g .iasr; iaesr = g .iaesr; iaddr = g .iaddr; regions = g .regions }
-withStored g Iasr v = g
-withStored g Iacr v = withIasr g v
-withStored g Iaesr v = g
-withStored g Iaddr v = g
-withStored g (Cfgr x) v = withRegionWord g (base x) v
-withStored g (Start x) v = withRegionWord g (base x + 1) v
-withStored g (End x) v = withRegionWord g (base x + 2) v
-withStored g (Cidcfgr x) v = withRegionWord g (base x + 3) v
-withStored g (SubCfgr x s) v = withRegionWord g (sub x s) v
-withStored g (SubStart x s) v = withRegionWord g (sub x s + 1) v
-withStored g (SubEnd x s) v = withRegionWord g (sub x s + 2) v
-withStored g (Nest x s) v = withRegionWord g (sub x s + 3) v
-withStored g Unknown v = g
+abbrev pub iaddrAt : ℕ
+iaddrAt = 3
 
--- what an access to a register looks at
-unfoldable pub seen : Guard → Register → Seen
-seen g reg =
+abbrev pub headWords : ℕ
+headWords = 4
+
+abbrev pub regionsWords : ℕ
+regionsWords = mostRegions * regionWords
+
+abbrev pub guardSize : ℕ
+guardSize = headWords + regionsWords
+
+abbrev pub guardWords : Guard → List ℕ
+guardWords g = g .cr ∷ g .iasr ∷ g .iaesr ∷ g .iaddr ∷ g .regions
+
+-- words as a guard
+abbrev pub guardFrom : List ℕ → Guard
+guardFrom w =
     record {
-      glock = bit (g .cr) 0;
-      base = regionWord g (base (regionOf reg));
-      sub = regionWord g (sub (regionOf reg) (subOf reg));
-      nest = regionWord g (sub (regionOf reg) (subOf reg) + 3);
-      word = stored g reg;
+      cr = getD w crAt 0;
+      iasr = getD w iasrAt 0;
+      iaesr = getD w iaesrAt 0;
+      iaddr = getD w iaddrAt 0;
+      regions = drop headWords w;
     }
 
--- reset: all 0 but each END, the last byte of the first granule
+-- the guard with another word at a place
+unfoldable pub withWord : Guard → ℕ → ℕ → Guard
+withWord g place v = guardFrom (set (guardWords g) place v)
+
+-- ---- reset: all 0 but each END, the last byte of the first granule
+
+abbrev pub granule : ℕ
+granule = 4096
+
 abbrev pub endReset : ℕ
 endReset = granule - 1
 
@@ -78,4 +62,4 @@ regionsReset zero = []
 regionsReset (suc n) = regionReset ++ regionsReset n
 
 unfoldable pub reset : Guard
-reset = record { cr = 0; iasr = 0; iaesr = 0; iaddr = 0; regions = regionsReset 11 }
+reset = record { cr = 0; iasr = 0; iaesr = 0; iaddr = 0; regions = regionsReset mostRegions }

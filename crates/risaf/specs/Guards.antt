@@ -1,22 +1,58 @@
 -- Which guards there are: document 01, "Guard: base regions, window size".
-use mathlib.Core.Bool.{Bool, _||_, cond}
-use Prim.Native.Nat.{ℕ, _^_}
+use mathlib.Core.Bool.{Bool, true, false, cond}
+use mathlib.Core.List.{List, [], _∷_}
+use Prim.Native.Nat.{ℕ, suc, _+_, _^_}
 use lib.Dec.{eqb}
-use Rattle.access.specs.Offset.{within}
+use lib.ListN.{length}
 use Rattle.risaf.specs.declared.guards.Shape.{Shape}
 
--- RISAF 1 to 9 and 11 to 14
-unfoldable pub isGuard : ℕ → Bool
-isGuard n = within 1 9 n || within 11 14 n
+-- a row of the table of guards
+pub record Row : Type 0 where
+  pub number : ℕ
+  pub regions : ℕ
+  pub window : ℕ
+
+abbrev guard : ℕ → ℕ → ℕ → Row
+guard n regions window = record { number = n; regions = regions; window = window }
+
+-- the table of guards, in rising number: number, base regions, window size
+abbrev pub guards : List Row
+guards =
+    guard 1 7 (2 ^ 30)
+    ∷ guard 2 7 (2 ^ 20)
+    ∷ guard 3 7 (2 ^ 20)
+    ∷ guard 4 11 (2 ^ 32)
+    ∷ guard 5 11 (2 ^ 32)
+    ∷ guard 6 11 (2 ^ 32)
+    ∷ guard 7 7 409_600
+    ∷ guard 8 7 262_144
+    ∷ guard 9 7 131_072
+    ∷ guard 11 7 (2 ^ 28)
+    ∷ guard 12 7 (2 ^ 28)
+    ∷ guard 13 7 (2 ^ 28)
+    ∷ guard 14 7 (2 ^ 28)
+    ∷ []
+
+abbrev pub guardCount : ℕ
+guardCount = length guards
+
+-- guard n raises 138 + n
+abbrev pub flagOf : ℕ → ℕ
+flagOf n = 138 + n
+
+abbrev pub shaped : ℕ → ℕ → ℕ → ℕ → Shape
+shaped place regions window flag =
+    record { there = true; place = place; regions = regions; window = window; flag = record { 0 = flag } }
+
+-- the shape of guard n by the rows of a table whose first has this place
+unfoldable pub shapeIn : List Row → ℕ → ℕ → Shape
+shapeIn [] place n = record { there = false; place = 0; regions = 0; window = 0; flag = record { 0 = 0 } }
+shapeIn (g ∷ gs) place n =
+    cond (eqb n (g .number)) (shaped place (g .regions) (g .window) (flagOf n)) (shapeIn gs (suc place) n)
 
 -- a number that is no guard's has no region and no window
 unfoldable pub shapeOf : ℕ → Shape
-shapeOf n =
-    cond (eqb n 1) (record { regions = 7; window = 2 ^ 30 })
-    (cond (within 2 3 n) (record { regions = 7; window = 2 ^ 20 })
-    (cond (within 4 6 n) (record { regions = 11; window = 2 ^ 32 })
-    (cond (eqb n 7) (record { regions = 7; window = 409_600 })
-    (cond (eqb n 8) (record { regions = 7; window = 262_144 })
-    (cond (eqb n 9) (record { regions = 7; window = 131_072 })
-    (cond (within 11 14 n) (record { regions = 7; window = 2 ^ 28 })
-    (record { regions = 0; window = 0 })))))))
+shapeOf n = shapeIn guards 0 n
+
+abbrev pub isGuard : ℕ → Bool
+isGuard n = shapeOf n .there

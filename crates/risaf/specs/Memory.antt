@@ -1,29 +1,31 @@
 -- A memory access to a guard: document 01, the order of its checks, and "A refused memory access sets IAEF".
 use mathlib.Core.Bool.{Bool, true, false, _&&_, _||_, cond}
 use Prim.Native.Nat.{ℕ, _+_, _*_, _%_}
-use lib.Dec.{leb, ltb, eqb}
+use lib.Dec.{ltb, eqb}
 use Rattle.words.specs.Bit.{bit, one, merged, withBit}
 use Rattle.access.specs.Answer.{left}
 use Rattle.access.specs.Checks.{answered}
+use Rattle.access.specs.Kind.{isCid}
 use Rattle.access.specs.declared.answer.Answer.{Answer}
 use Rattle.access.specs.declared.checks.Checks.{Checks}
 use Rattle.access.specs.declared.kind.Kind.{Kind}
-use Rattle.risaf.specs.Registers.{named}
 use Rattle.regions.specs.Rules.{decided}
-use Rattle.risaf.specs.declared.registers.Register.the-variants.{Iaesr}
-use Rattle.risaf.specs.declared.guards.Shape.{Shape}
-use Rattle.risaf.specs.declared.contents.Guard.{Guard}
-use Rattle.risaf.specs.declared.contents.Stepped.{Stepped}
 use Rattle.regions.specs.declared.rules.Verdict.{Verdict}
+use Rattle.risaf.specs.Port.{Stepped}
+use Rattle.risaf.specs.Rows.{ofHead}
+use Rattle.risaf.specs.declared.contents.Guard.{Guard}
+use Rattle.risaf.specs.declared.guards.Shape.{Shape}
+use Rattle.risaf.specs.declared.memory.Faults.{Faults}
+use Rattle.risaf.specs.declared.registers.Head.the-variants.{Iaesr}
 
 abbrev pub isWidth : ℕ → Bool
 isWidth width = eqb width 1 || eqb width 2 || eqb width 4
 
 -- there says whether the guard, and the master, are ones there are; the verdict is the rules'
-unfoldable pub checksOf : Bool → Shape → ℕ → ℕ → Kind → Verdict → Checks
-checksOf there shape o width k verdict =
+unfoldable pub memoryChecks : Bool → Shape → ℕ → ℕ → Kind → Verdict → Checks
+memoryChecks there shape o width k verdict =
     record {
-      present = there && leb (k .cid .0) 7 && isWidth width;
+      present = there && isCid (k .cid) && isWidth width;
       aligned = eqb (o % width) 0;
       inside = ltb o (shape .window);
       fetchless = true;
@@ -34,34 +36,33 @@ checksOf there shape o width k verdict =
     }
 
 -- a granted access gives which rule governed
-unfoldable pub answerOf : Bool → Shape → ℕ → ℕ → Kind → Verdict → Answer
-answerOf there shape o width k verdict = answered (checksOf there shape o width k verdict) (verdict .rule)
+unfoldable pub memoryAnswer : Bool → Shape → ℕ → ℕ → Kind → Verdict → Answer
+memoryAnswer there shape o width k verdict = answered (memoryChecks there shape o width k verdict) (verdict .rule)
 
 -- a kind of asking as IAESR records it: CID 2:0, privileged 4, secure 5, write 7
 abbrev pub recorded : Kind → ℕ
 recorded k = k .cid .0 % 8 + 16 * one (k .privileged) + 32 * one (k .secure) + 128 * one (k .write)
 
 -- IAEF (bit 1) is set; where it was 0, IAESR and IADDR are filled
-abbrev pub iasrFaulted : ℕ → ℕ
-iasrFaulted iasr = withBit 32 iasr 1 true
-
-abbrev pub iaesrFaulted : ℕ → ℕ → Kind → ℕ
-iaesrFaulted iasr iaesr k = cond (bit iasr 1) iaesr (merged 32 iaesr (recorded k) (named Iaesr))
-
-abbrev pub iaddrFaulted : ℕ → ℕ → ℕ → ℕ
-iaddrFaulted iasr iaddr o = cond (bit iasr 1) iaddr o
-
-unfoldable pub faulted : Guard → ℕ → Kind → Guard
-faulted g o k =
+unfoldable pub recordedFault : Faults → ℕ → Kind → Faults
+recordedFault f o k =
     record {
-      cr = g .cr;
-      iasr = iasrFaulted (g .iasr);
-      iaesr = iaesrFaulted (g .iasr) (g .iaesr) k;
-      iaddr = iaddrFaulted (g .iasr) (g .iaddr) o;
-      regions = g .regions;
+      iasr = withBit 32 (f .iasr) 1 true;
+      iaesr = cond (bit (f .iasr) 1) (f .iaesr) (merged 32 (f .iaesr) (recorded k) (ofHead Iaesr .named));
+      iaddr = cond (bit (f .iasr) 1) (f .iaddr) o;
     }
 
-unfoldable pub accessed : Bool → Shape → Guard → ℕ → ℕ → Kind → Stepped
-accessed there shape g o width k =
-    let a = answerOf there shape o width k (decided (g .regions) (shape .regions) o k) in
+-- of the whole guard
+abbrev pub faultsOf : Guard → Faults
+faultsOf g = record { iasr = g .iasr; iaesr = g .iaesr; iaddr = g .iaddr }
+
+abbrev pub withFaults : Guard → Faults → Guard
+withFaults g f = record { cr = g .cr; iasr = f .iasr; iaesr = f .iaesr; iaddr = f .iaddr; regions = g .regions }
+
+unfoldable pub faulted : Guard → ℕ → Kind → Guard
+faulted g o k = withFaults g (recordedFault (faultsOf g) o k)
+
+unfoldable pub memoryStepped : Bool → Shape → Guard → ℕ → ℕ → Kind → Stepped
+memoryStepped there shape g o width k =
+    let a = memoryAnswer there shape o width k (decided (g .regions) (shape .regions) o k) in
     record { next = left a g g (faulted g o k); answer = a }

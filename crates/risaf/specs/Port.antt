@@ -1,128 +1,158 @@
 -- A register access to a guard: document 01, "Register rights". The port always speaks as compartment 1.
 use mathlib.Core.Bool.{Bool, true, false, not, _&&_, _||_, cond}
+use mathlib.Core.List.{List}
 use Prim.Native.Nat.{ℕ, _+_, _-_, _*_, _/_, _%_}
 use lib.Dec.{eqb}
+use lib.ListN.{getD}
 use Rattle.words.specs.Bit.{bit, word, field, masked, merged, withBit}
 use Rattle.access.specs.Answer.{left}
 use Rattle.access.specs.Checks.{answered}
+use Rattle.access.specs.Kind.{equals}
+use Rattle.access.specs.Request.{gives}
 use Rattle.access.specs.declared.answer.Answer.{Answer}
 use Rattle.access.specs.declared.checks.Checks.{Checks}
+use Rattle.access.specs.declared.kind.Cid.{Cid}
 use Rattle.access.specs.declared.request.Request.{Request}
-use Rattle.risaf.specs.Registers.{registerAt, known, readable, writable, guarded, ofSubregion, named, granule}
-use Rattle.risaf.specs.Contents.{withIasr, withStored, seen}
-use Rattle.risaf.specs.declared.registers.Register.{Register}
-use Rattle.risaf.specs.declared.registers.Register.the-variants.{Cr, Iasr, Iacr, Iaesr, Iaddr, Cfgr, Start, End, Cidcfgr, SubCfgr, SubStart, SubEnd, Nest, Unknown}
+use Rattle.regions.specs.Words.{secBit}
+use Rattle.risaf.specs.Contents.{crAt, iasrAt, granule, guardWords, withWord}
+use Rattle.risaf.specs.Registers.{registerAt}
+use Rattle.risaf.specs.Rows.{rowOf}
 use Rattle.risaf.specs.declared.contents.Guard.{Guard}
-use Rattle.risaf.specs.declared.contents.Seen.{Seen}
-use Rattle.risaf.specs.declared.contents.Stepped.{Stepped}
+use Rattle.risaf.specs.declared.port.Accessed.{Accessed}
+use Rattle.risaf.specs.declared.port.Port.{Port}
+use Rattle.risaf.specs.declared.rows.Form.{Form}
+use Rattle.risaf.specs.declared.rows.Form.the-variants.{Kept, Taken, SetByOne, ClearedByOne, GranuleStart, GranuleEnd, SubregionCfgr}
+use Rattle.risaf.specs.declared.rows.Lock.{Lock}
+use Rattle.risaf.specs.declared.rows.Lock.the-variants.{Glock, Rlock, Never}
+use Rattle.risaf.specs.declared.rows.Row.{Row}
+
+-- ---- what an access to a register needs of the guard: GLOCK, IASR, CFGR of its base region, CFGR and NEST of its subregion, its own word
+
+unfoldable pub portIn : List ℕ → Row → Port
+portIn w row =
+    record {
+      glock = bit (getD w crAt 0) 0;
+      iasr = getD w iasrAt 0;
+      base = getD w (row .base) 0;
+      sub = getD w (row .sub) 0;
+      nest = getD w (row .nest) 0;
+      word = getD w (row .place) 0;
+    }
 
 -- ---- a read gives the named bits
 
-unfoldable pub readOf : Register → ℕ → ℕ
-readOf reg old = masked 32 old (named reg)
+unfoldable pub readOf : Row → ℕ → ℕ
+readOf row old = masked 32 old (row .named)
 
 -- ---- rights
 
--- a subregion's CFGR, START and END: with DCEN (2) 0, secure; with DCEN 1, DCCID (6:4) is 1 and secure or the base's SEC (8) is 0
-abbrev pub delegated : Seen → Bool → Bool
-delegated v secure =
-    cond (bit (v .nest) 2) (eqb (field (v .nest) 4 3) 1 && (secure || not (bit (v .base) 8))) secure
+-- the port's compartment, and the one that a NEST delegates to (DCCID, 6:4)
+abbrev pub portCid : Cid
+portCid = record { 0 = 1 }
+
+abbrev pub dccid : ℕ → Cid
+dccid nest = record { 0 = field nest 4 3 }
+
+-- a subregion's CFGR, START and END: with DCEN (2) 0, secure; with DCEN 1, DCCID is 1 and secure or the base's SEC is 0
+unfoldable pub delegated : Port → Bool → Bool
+delegated p secure =
+    cond (bit (p .nest) 2) (equals (dccid (p .nest)) portCid && (secure || not (bit (p .base) secBit))) secure
 
 -- a write needs privileged, and secure but for what is delegated; the fault registers need both to read too
-unfoldable pub allowedOf : Register → Seen → Request → Bool
-allowedOf reg v q =
-    cond (q .write) (q .privileged && cond (ofSubregion reg) (delegated v (q .secure)) (q .secure))
-    (not (guarded reg) || q .secure && q .privileged)
+unfoldable pub allowedOf : Row → Port → Request → Bool
+allowedOf row p q =
+    cond (q .write) (q .privileged && cond (row .delegable) (delegated p (q .secure)) (q .secure))
+    (not (row .guarded) || q .secure && q .privileged)
 
--- ---- locks: RLOCK (1) a subregion's CFGR, START and END; GLOCK all else but IACR
+-- ---- locks: GLOCK; RLOCK (1) of the subregion
 
-unfoldable pub lockedOf : Register → Seen → Bool
-lockedOf Cr v = v .glock
-lockedOf Iasr v = v .glock
-lockedOf Iacr v = false
-lockedOf Iaesr v = v .glock
-lockedOf Iaddr v = v .glock
-lockedOf (Cfgr x) v = v .glock
-lockedOf (Start x) v = v .glock
-lockedOf (End x) v = v .glock
-lockedOf (Cidcfgr x) v = v .glock
-lockedOf (SubCfgr x s) v = bit (v .sub) 1
-lockedOf (SubStart x s) v = bit (v .sub) 1
-lockedOf (SubEnd x s) v = bit (v .sub) 1
-lockedOf (Nest x s) v = v .glock
-lockedOf Unknown v = v .glock
+abbrev pub lockedOf : Lock → Port → Bool
+lockedOf Glock p = p .glock
+lockedOf Rlock p = bit (p .sub) 1
+lockedOf Never p = false
 
 -- ---- the word that a write leaves
 
--- GLOCK is set by 1 and not cleared by 0
-unfoldable pub crWritten : ℕ → ℕ → ℕ
-crWritten old value = word 32 (λ i. bit old i || bit (named Cr) i && bit value i)
-
--- IACR: 1 clears
-unfoldable pub faultsCleared : ℕ → ℕ → ℕ
-faultsCleared old value = word 32 (λ i. bit old i && not (bit (named Iacr) i && bit value i))
-
--- START lies on a granule, END at the end of one
-abbrev pub startWritten : ℕ → ℕ
-startWritten value = value / granule * granule
-
-abbrev pub endWritten : ℕ → ℕ
-endWritten value = value / granule * granule + (granule - 1)
+-- bit i of some bits, bit k only where it may be
+abbrev pub bitIf : ℕ → ℕ → Bool → ℕ → Bool
+bitIf bits k may i = bit bits i && (may || not (eqb i k))
 
 -- of a subregion's CFGR a write takes RLOCK (1) only while GLOCK is 1, and SEC (8) only where it is secure
-unfoldable pub subcfgrWritten : ℕ → ℕ → Seen → ℕ → Bool → ℕ
-subcfgrWritten x s v value secure =
+unfoldable pub subcfgrWritten : ℕ → Port → ℕ → Bool → ℕ
+subcfgrWritten named p value secure =
     word 32
-    (λ i.
-    cond (bit (named (SubCfgr x s)) i && (v .glock || not (eqb i 1)) && (secure || not (eqb i 8))) (bit value i)
-    (bit (v .word) i))
+    (λ i. cond (bitIf named 1 (p .glock) i && (secure || not (eqb i secBit))) (bit value i) (bit (p .word) i))
 
-unfoldable pub wordWritten : Register → Seen → ℕ → Bool → ℕ
-wordWritten Cr v value secure = crWritten (v .word) value
-wordWritten Iasr v value secure = v .word
-wordWritten Iacr v value secure = faultsCleared (v .word) value
-wordWritten Iaesr v value secure = v .word
-wordWritten Iaddr v value secure = v .word
-wordWritten (Cfgr x) v value secure = merged 32 (v .word) value (named (Cfgr x))
-wordWritten (Start x) v value secure = startWritten value
-wordWritten (End x) v value secure = endWritten value
-wordWritten (Cidcfgr x) v value secure = merged 32 (v .word) value (named (Cidcfgr x))
-wordWritten (SubCfgr x s) v value secure = subcfgrWritten x s v value secure
-wordWritten (SubStart x s) v value secure = startWritten value
-wordWritten (SubEnd x s) v value secure = endWritten value
-wordWritten (Nest x s) v value secure = merged 32 (v .word) value (named (Nest x s))
-wordWritten Unknown v value secure = v .word
+-- as the row says: GLOCK is set by 1 and not cleared by 0, IACR's 1 clears, START lies on a granule, END at the end of one
+unfoldable pub wordIn : Form → ℕ → Port → ℕ → Bool → ℕ
+wordIn Kept named p value secure = p .word
+wordIn Taken named p value secure = merged 32 (p .word) value named
+wordIn SetByOne named p value secure = word 32 (λ i. bit (p .word) i || bit named i && bit value i)
+wordIn ClearedByOne named p value secure = word 32 (λ i. bit (p .word) i && not (bit named i && bit value i))
+wordIn GranuleStart named p value secure = value / granule * granule
+wordIn GranuleEnd named p value secure = value / granule * granule + (granule - 1)
+wordIn SubregionCfgr named p value secure = subcfgrWritten named p value secure
+
+abbrev pub wordWritten : Row → Port → ℕ → Bool → ℕ
+wordWritten row p value secure = wordIn (row .form) (row .named) p value secure
 
 -- ---- the checks, in their order; there says whether the guard is one there is
 
-unfoldable pub checksOf : Bool → Register → Seen → Request → Checks
-checksOf there reg v q =
+unfoldable pub checksOf : Bool → Row → Port → Request → Checks
+checksOf there row p q =
     record {
       present = there;
       aligned = eqb (q .offset % 4) 0;
       inside = true;
       fetchless = true;
-      known = known reg;
-      allowed = allowedOf reg v q;
-      direction = cond (q .write) (writable reg) (readable reg);
-      unlocked = not (q .write) || not (lockedOf reg v);
+      known = row .known;
+      allowed = allowedOf row p q;
+      direction = cond (q .write) (row .writable) (row .readable);
+      unlocked = not (q .write) || not (lockedOf (row .lock) p);
     }
 
-unfoldable pub answerOf : Bool → Register → Seen → Request → Answer
-answerOf there reg v q = answered (checksOf there reg v q) (cond (q .write) 0 (readOf reg (v .word)))
+unfoldable pub answerOf : Bool → Row → Port → Request → Answer
+answerOf there row p q = answered (checksOf there row p q) (gives q (readOf row (p .word)))
 
 -- ---- what an access leaves
 
-unfoldable pub written : Guard → Register → Request → Guard
-written g reg q = cond (q .write) (withStored g reg (wordWritten reg (seen g reg) (q .value) (q .secure))) g
+abbrev pub withPortWord : Port → ℕ → Port
+withPortWord p v =
+    record { glock = p .glock; iasr = p .iasr; base = p .base; sub = p .sub; nest = p .nest; word = v }
 
--- a refused register access sets CAEF
-unfoldable pub refused : Guard → Guard
-refused g = withIasr g (withBit 32 (g .iasr) 0 true)
+-- a refused register access sets CAEF (0)
+abbrev pub refusedPort : Port → Port
+refusedPort p =
+    record {
+      glock = p .glock;
+      iasr = withBit 32 (p .iasr) 0 true;
+      base = p .base;
+      sub = p .sub;
+      nest = p .nest;
+      word = p .word;
+    }
 
--- n is the guard's count of base regions
+unfoldable pub accessed : Bool → Row → Port → Request → Accessed
+accessed there row p q =
+    let a = answerOf there row p q in
+    record {
+      next = left a p (cond (q .write) (withPortWord p (wordWritten row p (q .value) (q .secure))) p) (refusedPort p);
+      answer = a;
+    }
+
+-- ---- of the whole guard, with n base regions: the register's word is another where a write is done, IASR where the access is refused
+
+pub record Stepped : Type 0 where
+  pub next : Guard
+  pub answer : Answer
+
 unfoldable pub stepped : Bool → ℕ → Guard → Request → Stepped
 stepped there n g q =
-    let reg = registerAt n (q .offset) in
-    let a = answerOf there reg (seen g reg) q in
-    record { next = left a g (written g reg q) (refused g); answer = a }
+    let row = rowOf (registerAt n (q .offset)) in
+    let r = accessed there row (portIn (guardWords g) row) q in
+    record {
+      next =
+          left (r .answer) g (cond (q .write) (withWord g (row .place) (r .next .word)) g)
+          (withWord g iasrAt (r .next .iasr));
+      answer = r .answer;
+    }

@@ -1,15 +1,20 @@
 // One memory guard. Document 01 calls a RISAF a guard.
 pub mod contents;
-mod forms;
 pub mod guards;
 pub mod memory;
-pub mod places;
 pub mod port;
 pub mod registers;
+pub mod rows;
 
+pub use contents::GUARD_WORDS;
 pub use contents::Guard;
-pub use contents::Seen;
-pub use contents::Stepped;
+pub use contents::HEAD_WORDS;
+pub use contents::IASR;
+pub use contents::REGIONS_WORDS;
+pub use guards::GUARD_COUNT;
 pub use guards::GuardNumber;
 pub use guards::Shape;
-pub use registers::Register;
+pub use memory::Faults;
+pub use memory::memory_answer;
+pub use port::Port;
+pub use rows::row_at;

@@ -1,18 +1,33 @@
-use crate::Guard;
-use crate::GuardNumber;
 use crate::Shape;
-use crate::Stepped;
 use access::Answer;
 use access::Checks;
+use access::DEBUGGER;
 use access::Kind;
 use regions::Verdict;
-use regions::decide;
+use regions::places::COMPARTMENTS;
 ghost use mathlib.Core.Bool.{true};
 ghost use mathlib.Core.Path.{_≡_};
 ghost use Prim.Native.Nat.{_%_};
 ghost use lib.Dec.{eqb};
-ghost use Rattle.risaf.specs.Guards.{isGuard, shapeOf};
-ghost use Rattle.risaf.specs.Memory.{accessed, answerOf, faulted, iaddrFaulted, iaesrFaulted, iasrFaulted, isWidth};
+ghost use Rattle.risaf.specs.Memory.{isWidth, memoryAnswer, recordedFault};
+
+// The fault registers, as stored.
+pub struct Faults {
+    pub iasr: u32,
+    pub iaesr: u32,
+    pub iaddr: u32,
+}
+
+// Bits of IASR and of IAESR, and the named ones of IAESR.
+const IAEF: u32 = 1;
+
+const PRIVILEGED: u32 = 16;
+
+const SECURE: u32 = 32;
+
+const WRITE: u32 = 128;
+
+const IAESR_NAMED: u32 = 0xb7;
 
 // Whether the offset is a multiple of a width that there is. Of another width nobody asks: it is refused first.
 fn aligned(o: u32, width: u32) -> bool
@@ -34,10 +49,10 @@ pub fn memory_answer(
     k: Kind,
     verdict: Verdict,
 ) -> Answer
-    ensures { λ r. ⌜ r ≡ answerOf there shape o width k verdict ⌝ }
+    ensures { λ r. ⌜ r ≡ memoryAnswer there shape o width k verdict ⌝ }
 {
     let checks = Checks {
-        present: there & (k.cid.0 <= 7) & ((width == 1) | (width == 2) | (width == 4)),
+        present: there & (k.cid.0 <= DEBUGGER.0) & ((width == 1) | (width == 2) | (width == 4)),
         aligned: aligned(o, width),
         inside: (o as u64) < shape.window,
         fetchless: true,
@@ -49,57 +64,29 @@ pub fn memory_answer(
     checks.answer(verdict.rule)
 }
 
-// IASR after a refused access: IAEF is set.
-pub fn iasr_faulted(iasr: u32) -> u32
-    ensures { λ r. ⌜ r ≡ iasrFaulted iasr ⌝ }
-{
-    words::with_bit(iasr, 1, true)
-}
-
-// IAESR after a refused access: the first since IAEF was 0 fills it.
-pub fn iaesr_faulted(iasr: u32, iaesr: u32, k: Kind) -> u32
-    ensures { λ r. ⌜ r ≡ iaesrFaulted iasr iaesr k ⌝ }
-{
-    if (iasr >> 1) % 2 == 1 {
-        return iaesr;
-    }
-    let cid = k.cid.0 % 8;
-    let kind = cid + 16 * (k.privileged as u32) + 32 * (k.secure as u32) + 128 * (k.write as u32);
-    words::merge(iaesr, kind, 0xb7)
-}
-
-// IADDR after a refused access.
-pub fn iaddr_faulted(iasr: u32, iaddr: u32, o: u32) -> u32
-    ensures { λ r. ⌜ r ≡ iaddrFaulted iasr iaddr o ⌝ }
-{
-    if (iasr >> 1) % 2 == 1 { iaddr } else { o }
-}
-
-impl Guard {
-    // After a refused access.
-    fn faulted(mut self, o: u32, k: Kind) -> Guard
-        ensures { λ r. ⌜ r ≡ faulted self o k ⌝ }
+impl Faults {
+    // After a refused memory access: IAEF is set, and the first since it was 0 fills IAESR and IADDR.
+    pub fn recorded(self, o: u32, k: Kind) -> Self
+        ensures { λ r. ⌜ r ≡ recordedFault self o k ⌝ }
     {
-        let iasr = self.iasr;
-        self.iaesr = iaesr_faulted(iasr, self.iaesr, k);
-        self.iaddr = iaddr_faulted(iasr, self.iaddr, o);
-        self.iasr = iasr_faulted(iasr);
-        self
-    }
-
-    // A memory access of a kind at an offset of the guard's window.
-    pub fn memory(mut self, number: GuardNumber, o: u32, width: u32, k: Kind) -> Stepped
-        ensures { λ r. ⌜ r ≡ accessed (isGuard (number .0)) (shapeOf (number .0)) self o width k ⌝ }
-    {
-        let shape = number.shape();
-        let verdict = decide(&self.regions, shape.regions, o, k);
-        let answer = memory_answer(number.exists(), shape, o, width, k, verdict);
-        match answer.number() {
-            1 => Stepped {
-                next: self.faulted(o, k),
-                answer,
-            },
-            _ => Stepped { next: self, answer },
+        let iasr = words::with_bit(self.iasr, IAEF, true);
+        if (self.iasr >> IAEF) % 2 == 1 {
+            return Faults {
+                iasr,
+                iaesr: self.iaesr,
+                iaddr: self.iaddr,
+            };
+        }
+        let cid = k.cid.0 % COMPARTMENTS;
+        let kind = cid
+            + PRIVILEGED * (k.privileged as u32)
+            + SECURE * (k.secure as u32)
+            + WRITE * (k.write as u32);
+        let iaesr = words::merge(self.iaesr, kind, IAESR_NAMED);
+        Faults {
+            iasr,
+            iaesr,
+            iaddr: o,
         }
     }
 }

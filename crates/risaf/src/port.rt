@@ -1,106 +1,184 @@
-use crate::Guard;
-use crate::GuardNumber;
-use crate::Register;
-use crate::Seen;
-use crate::Stepped;
-use crate::forms;
-use crate::registers;
+use crate::contents::CR;
+use crate::contents::GRANULE;
+use crate::contents::IASR;
+use crate::rows::Form;
+use crate::rows::Lock;
+use crate::rows::Row;
 use access::Answer;
 use access::Checks;
+use access::Cid;
 use access::Request;
+use regions::places::COMPARTMENTS;
+use regions::places::SEC;
 ghost use mathlib.Core.Path.{_≡_};
-ghost use Rattle.risaf.specs.Forms.{allowedBy};
-ghost use Rattle.risaf.specs.Guards.{isGuard, shapeOf};
-ghost use Rattle.risaf.specs.Port.{answerOf, stepped, subcfgrWritten, wordWritten};
+ghost use lib.ListN.{getD};
+ghost use Rattle.words.specs.Bit.{word};
+ghost use Rattle.risaf.specs.Port.{
+  accessed,
+  allowedOf,
+  answerOf,
+  bitIf,
+  delegated,
+  lockedOf,
+  portIn,
+  subcfgrWritten,
+  wordWritten,
+};
 
-const GRANULE: u32 = 4096;
+// What an access to a register needs of the guard.
+pub struct Port {
+    pub glock: bool,
+    pub iasr: u32,
+    // CFGR of the register's base region.
+    pub base: u32,
+    // CFGR and NEST of its subregion.
+    pub sub: u32,
+    pub nest: u32,
+    // The register's own word.
+    pub word: u32,
+}
 
-// The rights suffice for a register of a form.
-fn allowed(form: u32, v: Seen, q: Request) -> bool
-    ensures { λ r. ⌜ r ≡ allowedBy form v q ⌝ }
+// What an access leaves: the next of all that, and the answer.
+pub struct Accessed {
+    pub next: Port,
+    pub answer: Answer,
+}
+
+// The port always speaks as this compartment.
+const PORT: Cid = Cid(1);
+
+// Bits of NEST, of a subregion's CFGR, and of IASR.
+const DCEN: u32 = 2;
+
+const DCCID: u32 = 4;
+
+const RLOCK: u32 = 1;
+
+const CAEF: u32 = 0;
+
+// The word at a place; 0 past the end.
+fn word_in(w: &[u32], at: usize) -> u32
+    ensures { λ r. ⌜ r ≡ getD (now (w .entry)) at 0 ⌝ }
+{
+    if at < w.len() { w[at] } else { 0 }
+}
+
+// A subregion's CFGR, START and END: with DCEN 0, secure; with DCEN 1, DCCID is the port's and secure or the base's SEC is 0.
+fn delegated(p: Port, secure: bool) -> bool
+    ensures { λ r. ⌜ r ≡ delegated p secure ⌝ }
+{
+    if (p.nest >> DCEN) % 2 == 1 {
+        let dccid = Cid((p.nest >> DCCID) % COMPARTMENTS);
+        return dccid.equals(PORT) & (secure | !((p.base >> SEC) % 2 == 1));
+    }
+    secure
+}
+
+// The rights suffice.
+fn allowed(row: Row, p: Port, q: Request) -> bool
+    ensures { λ r. ⌜ r ≡ allowedOf row p q ⌝ }
 {
     if !q.write {
-        return !((form == forms::FAULT) | (form == forms::IACR)) | (q.secure & q.privileged);
+        return !row.guarded | (q.secure & q.privileged);
     }
-    let delegable = (forms::SUB_CFGR <= form) & (form <= forms::SUB_END);
-    let dcen = (v.nest >> 2) % 2 == 1;
-    if delegable & dcen {
-        let dccid = (v.nest >> 4) % 8;
-        return q.privileged & ((dccid == 1) & (q.secure | !((v.base >> 8) % 2 == 1)));
+    if row.delegable {
+        return q.privileged & delegated(p, q.secure);
     }
     q.privileged & q.secure
 }
 
-// The answer to an access to a register: there says whether the guard is one there is.
-pub fn answer(there: bool, reg: Register, v: Seen, q: Request) -> Answer
-    ensures { λ r. ⌜ r ≡ answerOf there reg v q ⌝ }
+fn locked(lock: Lock, p: Port) -> bool
+    ensures { λ r. ⌜ r ≡ lockedOf lock p ⌝ }
 {
-    let form = forms::form_of(reg);
-    let delegable = (forms::SUB_CFGR <= form) & (form <= forms::SUB_END);
-    let rlock = (v.sub >> 1) % 2 == 1;
-    let locked = (((form != forms::IACR) & v.glock) & !delegable) | (delegable & rlock);
-    let readable = (form != forms::IACR) & (form != forms::NONE);
-    let writable = (form != forms::FAULT) & (form != forms::NONE);
+    match lock {
+        Lock::Glock => p.glock,
+        Lock::Rlock => (p.sub >> RLOCK) % 2 == 1,
+        Lock::Never => false,
+    }
+}
+
+// The answer to an access to a register with this row: there says whether the guard is one there is.
+fn answer(there: bool, row: Row, p: Port, q: Request) -> Answer
+    ensures { λ r. ⌜ r ≡ answerOf there row p q ⌝ }
+{
+    let lock = row.lock;
     let checks = Checks {
         present: there,
         aligned: q.offset % 4 == 0,
         inside: true,
         fetchless: true,
-        known: form != forms::NONE,
-        allowed: allowed(form, v, q),
-        direction: (readable & !q.write) | (q.write & writable),
-        unlocked: !q.write | !locked,
+        known: row.known,
+        allowed: allowed(row, p, q),
+        direction: (q.write & row.writable) | (!q.write & row.readable),
+        unlocked: !q.write | !locked(lock, p),
     };
-    if q.write {
-        return checks.answer(0);
+    checks.answer(q.gives(words::masked(p.word, row.named)))
+}
+
+// The bits, but bit k only where it may be.
+fn with_bit_if(bits: u32, k: u32, may: bool) -> u32
+    ensures { λ r. ⌜ r ≡ word 32 (bitIf bits k may) ⌝ }
+{
+    if may {
+        return bits;
     }
-    checks.answer(words::masked(v.word, registers::named_of(reg)))
+    words::with_bit(bits, k, false)
 }
 
 // A subregion's CFGR: RLOCK is taken only while GLOCK is 1, and SEC only of a secure write.
-fn sub_cfgr_written(v: Seen, value: u32, secure: bool) -> u32
-    ensures { λ r. ⌜ r ≡ subcfgrWritten 0 0 v value secure ⌝ }
+fn sub_cfgr_written(named: u32, p: Port, value: u32, secure: bool) -> u32
+    ensures { λ r. ⌜ r ≡ subcfgrWritten named p value secure ⌝ }
 {
-    let mask = words::with_bit(words::with_bit(0x3373, 1, v.glock), 8, secure);
-    words::merge(v.word, value, mask)
+    let mask = with_bit_if(with_bit_if(named, RLOCK, p.glock), SEC, secure);
+    words::merge(p.word, value, mask)
 }
 
 // The word that a write leaves.
-pub fn word_written(reg: Register, v: Seen, value: u32, secure: bool) -> u32
-    ensures { λ r. ⌜ r ≡ wordWritten reg v value secure ⌝ }
+fn word_written(row: Row, p: Port, value: u32, secure: bool) -> u32
+    ensures { λ r. ⌜ r ≡ wordWritten row p value secure ⌝ }
 {
-    let form = forms::form_of(reg);
+    let form = row.form;
     match form {
-        forms::CR => words::united(v.word, words::masked(value, 0x1)),
-        forms::IACR => words::without(v.word, words::masked(value, 0x3)),
-        forms::PLAIN => words::merge(v.word, value, registers::named_of(reg)),
-        forms::START | forms::SUB_START => value / GRANULE * GRANULE,
-        forms::END | forms::SUB_END => value / GRANULE * GRANULE + (GRANULE - 1),
-        forms::SUB_CFGR => sub_cfgr_written(v, value, secure),
-        _ => v.word,
+        Form::Kept => p.word,
+        Form::Taken => words::merge(p.word, value, row.named),
+        Form::SetByOne => words::united(p.word, words::masked(value, row.named)),
+        Form::ClearedByOne => words::without(p.word, words::masked(value, row.named)),
+        Form::GranuleStart => value / GRANULE * GRANULE,
+        Form::GranuleEnd => value / GRANULE * GRANULE + (GRANULE - 1),
+        Form::SubregionCfgr => sub_cfgr_written(row.named, p, value, secure),
     }
 }
 
-impl Guard {
-    // An access to the register at an offset. A refused one sets CAEF.
-    pub fn access(mut self, number: GuardNumber, q: Request) -> Stepped
-        ensures { λ r. ⌜ r ≡ stepped (isGuard (number .0)) (shapeOf (number .0) .regions) self q ⌝ }
+impl Port {
+    // Among a guard's words, for an access to the register with this row.
+    pub fn at(w: &[u32], row: Row) -> Self
+        ensures { λ r. ⌜ r ≡ portIn (now (w .entry)) row ⌝ }
     {
-        let reg = registers::register_at(number.shape().regions, q.offset);
-        let v = self.seen(reg);
-        let answer = answer(number.exists(), reg, v, q);
-        let outcome = answer.number();
-        if outcome == 1 {
-            self.iasr = words::with_bit(self.iasr, 0, true);
-            return Stepped { next: self, answer };
+        Port {
+            glock: words::bit_of(word_in(w, CR), 0),
+            iasr: word_in(w, IASR),
+            base: word_in(w, row.base),
+            sub: word_in(w, row.sub),
+            nest: word_in(w, row.nest),
+            word: word_in(w, row.place),
         }
-        if (outcome == 0) & q.write {
-            let word = word_written(reg, v, q.value, q.secure);
-            return Stepped {
-                next: self.with_stored(reg, word),
-                answer,
-            };
+    }
+
+    // An access to the register with this row. A write that is done leaves another word, a refused access sets CAEF.
+    pub fn access(mut self, there: bool, row: Row, q: Request) -> Accessed
+        ensures { λ r. ⌜ r ≡ accessed there row self q ⌝ }
+    {
+        let answer = answer(there, row, self, q);
+        match answer {
+            Answer::Done(_) => {
+                if q.write {
+                    let word = word_written(row, self, q.value, q.secure);
+                    self.word = word;
+                }
+            }
+            Answer::Refused(_) => self.iasr = words::with_bit(self.iasr, CAEF, true),
+            Answer::Rejected(_) => {}
         }
-        Stepped { next: self, answer }
+        Accessed { next: self, answer }
     }
 }

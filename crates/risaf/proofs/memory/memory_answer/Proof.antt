@@ -6,7 +6,7 @@ use Rattle.risaf.proofs.memory.memory_answer.Tie as tie
 
 returns : tie.Need-returns
 returns c =
-    let a = c .before .before .before .before .args in
+    let a = c .before .before .before .before .before .args in
     answer-aligned (a .there) (a .shape) (a .o) (a .width) (a .k) (a .verdict) (c .before .before .aligned .ensures) (c .answer .ensures)
 
 pub memory-answer-spec : {M : Type 1} → statement M

@@ -1,23 +1,15 @@
 use borrow.Author.Needs.{needs}
-use Rattle.risaf.proofs.FormLaws.{answer-written, answer-read}
+use Rattle.risaf.specs.Port.{answerOf, checksOf, readOf}
+use Rattle.risaf.proofs.PortLaws.{either-is}
 use Rattle.risaf.proofs.port.answer.Statement.{statement}
 use Rattle.risaf.proofs.port.answer.Tie as tie
 
 returns : tie.Need-returns
-returns c =
-    let b = c .before .before .before .before .before in
-    let a = b .before .before .before .before in
-    answer-written _ _ _ _ (a .form-of .ensures) (b .allowed .ensures) (c .before .if1 .taken) (c .answer .ensures)
-
-returns-2 : tie.Need-returns-2
-returns-2 c =
-    let b = c .before .before .before .before .before .before .before in
-    let a = b .before .before .before .before in
-    answer-read _ _ _ _ (a .form-of .ensures) (b .allowed .ensures) (c .before .before .before .if1 .left)
-    (c .before .before .named-of .ensures) (c .before .masked .ensures) (c .answer2 .ensures)
+unfolding answerOf checksOf readOf
+returns c = simp (c .answer .ensures, c .before .gives .ensures, c .before .before .masked .ensures, c .before .before .before .locked .ensures, c .before .before .before .before .before .before .before .before .before .allowed .ensures, either-is)
 
 pub answer-spec : {M : Type 1} → statement M
 answer-spec =
     tie.close
-    (tie.spec (λ c κs. search needs) (λ c κs. search needs) (λ c κs. search needs) returns (λ c κs. search needs)
-    (λ c κs. search needs) (λ c κs. search needs) returns-2)
+    (tie.spec (λ c κs. search needs) (λ c κs. search needs) (λ c κs. search needs) (λ c κs. search needs)
+    (λ c κs. search needs) returns)

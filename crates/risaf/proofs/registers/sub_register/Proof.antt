@@ -1,20 +1,25 @@
+use borrow.Author.Needs.{needs}
 use mathlib.Core.Path.{sym, ap}
-use Rattle.risaf.specs.Registers.{subregisterAt}
+use Rattle.risaf.specs.Registers.{subRegister}
 use Rattle.risaf.proofs.RegisterMap.{sub-other}
 use Rattle.risaf.proofs.registers.sub_register.Statement.{statement}
 use Rattle.risaf.proofs.registers.sub_register.Tie as tie
 
 returns : tie.Need-returns
-returns c = sym (ap (subregisterAt (c .before .args .x) (c .before .args .s)) (c .match .keys1))
+unfolding subRegister
+returns c = sym (ap (subRegister (c .before .args .x) (c .before .args .s)) (c .match .keys1))
 
 returns-2 : tie.Need-returns-2
-returns-2 c = sym (ap (subregisterAt (c .before .args .x) (c .before .args .s)) (c .match .keys2))
+unfolding subRegister
+returns-2 c = sym (ap (subRegister (c .before .args .x) (c .before .args .s)) (c .match .keys2))
 
 returns-3 : tie.Need-returns-3
-returns-3 c = sym (ap (subregisterAt (c .before .args .x) (c .before .args .s)) (c .match .keys3))
+unfolding subRegister
+returns-3 c = sym (ap (subRegister (c .before .args .x) (c .before .args .s)) (c .match .keys3))
 
 returns-4 : tie.Need-returns-4
-returns-4 c = sym (ap (subregisterAt (c .before .args .x) (c .before .args .s)) (c .match .keys4))
+unfolding subRegister
+returns-4 c = sym (ap (subRegister (c .before .args .x) (c .before .args .s)) (c .match .keys4))
 
 returns-5 : tie.Need-returns-5
 returns-5 c =

@@ -1,0 +1,44 @@
+-- The words that a write leaves, as the code makes them.
+use mathlib.Core.Bool.{Bool, true, false, not, _&&_, _||_, cond, and-true, and-false, or-false}
+use mathlib.Core.Path.{_≡_, refl, sym, ap, _∙_}
+use Prim.Native.Nat.{ℕ, _^_, _<_}
+use lib.Dec.{eqb}
+use Rattle.words.specs.Bit.{bit, word, masked, less, merged, united, withBit}
+use Rattle.words.proofs.Laws.{bit-word, bit-withBit, withBit-lt, word-ext}
+use Rattle.words.proofs.Masks.{less-masked, merged-by, united-masked}
+use Rattle.regions.specs.Words.{secBit}
+use Rattle.risaf.specs.Port.{bitIf, subcfgrWritten}
+use Rattle.risaf.specs.declared.port.Port.{Port}
+
+-- ---- bits, one of them only where it may be
+
+pub bit-kept : (n bits k : ℕ) → bits < 2 ^ n → bits ≡ word n (bitIf bits k true)
+bit-kept n bits k l = word-ext n bits _ l (λ i h. sym (and-true _))
+
+but : (t b : Bool) → cond t false b ≡ (b && not t)
+but true b = sym (and-false b)
+but false b = sym (and-true b)
+
+pub bit-dropped : (n bits k : ℕ) → withBit n bits k false ≡ word n (bitIf bits k false)
+bit-dropped n bits k = word-ext n _ _ (withBit-lt n _ _ _) (λ i h. bit-withBit n bits k false i h ∙ but (eqb i k) (bit bits i))
+
+-- ---- a subregion's CFGR
+
+cfgr-by : (n named old value k l : ℕ) (a b : Bool)
+    → merged n old value (word n (bitIf (word n (bitIf named k a)) l b))
+    ≡ word n (λ i. cond (bitIf named k a i && (b || not (eqb i l))) (bit value i) (bit old i))
+cfgr-by n named old value k l a b =
+    merged-by n _ _
+    (λ i h. bit-word n _ i h ∙ ap (λ (c : Bool). c && (b || not (eqb i l))) (bit-word n (bitIf named k a) i h)) old value
+
+pub cfgr-is : (named : ℕ) (p : Port) (value : ℕ) (secure : Bool)
+    → merged 32 (p .word) value (word 32 (bitIf (word 32 (bitIf named 1 (p .glock))) secBit secure))
+    ≡ subcfgrWritten named p value secure
+unfolding subcfgrWritten
+cfgr-is named p value secure = cfgr-by 32 named (p .word) value 1 secBit (p .glock) secure
+
+-- ---- a bit for the direction
+
+pub either-is : (t a b : Bool) → (t && a || not t && b) ≡ cond t a b
+either-is true a b = simp or-false
+either-is false a b = refl
