@@ -5,7 +5,8 @@ use Prim.Native.Nat.{ℕ}
 use borrow.Author.Tests.{eq-eqb, ne-eqb}
 use lib.ListN.{length}
 use Rattle.access.specs.declared.answer.Answer.{Answer}
-use Rattle.access.specs.declared.answer.Answer.the-variants.{WrongLength}
+use Rattle.access.specs.declared.answer.Answer.the-variants.{Rejected}
+use Rattle.access.specs.declared.answer.Why.the-variants.{WrongLength}
 use Rattle.device.specs.Applied.{appliedAnswer, appliedState}
 use Rattle.device.specs.Layout.{layout, stateOf, stateWords}
 use Rattle.device.specs.Step.{step}
@@ -13,7 +14,7 @@ use Rattle.device.specs.declared.event.Event.{Event}
 use Rattle.device.proofs.StateLayout.{layout-of}
 
 module _ (e : Event) (m : List ℕ) where
-  pub other-length : (length m ≡ stateWords → ⊥) → (WrongLength ≡ appliedAnswer e m) × (m ≡ appliedState e m)
+  pub other-length : (length m ≡ stateWords → ⊥) → (Rejected WrongLength ≡ appliedAnswer e m) × (m ≡ appliedState e m)
   unfolding appliedAnswer appliedState
   other-length h = rw (ne-eqb (length m) stateWords h) (refl, refl)
 

@@ -5,7 +5,8 @@ use lib.Dec.{eqb}
 use lib.ListN.{length}
 use Prim.Native.Nat.{ℕ}
 use Rattle.access.specs.declared.answer.Answer.{Answer}
-use Rattle.access.specs.declared.answer.Answer.the-variants.{Done, WrongLength}
+use Rattle.access.specs.declared.answer.Answer.the-variants.{Done, Rejected}
+use Rattle.access.specs.declared.answer.Why.the-variants.{WrongLength}
 use Rattle.words.specs.Bit.{one}
 use Rattle.iac.specs.Flags.{line}
 use Rattle.device.specs.Layout.{stateWords, layout, stateOf}
@@ -16,11 +17,11 @@ abbrev pub sized : List ℕ → Bool
 sized m = eqb (length m) stateWords
 
 unfoldable pub appliedAnswer : Event → List ℕ → Answer
-appliedAnswer e m = cond (sized m) (step e (stateOf m) .answer) WrongLength
+appliedAnswer e m = cond (sized m) (step e (stateOf m) .answer) (Rejected WrongLength)
 
 unfoldable pub appliedState : Event → List ℕ → List ℕ
 appliedState e m = cond (sized m) (layout (step e (stateOf m) .next)) m
 
 -- the interrupt line of the state in lent memory: value 1 where it is up
 unfoldable pub lineAnswer : List ℕ → Answer
-lineAnswer m = cond (sized m) (Done (one (line (stateOf m .iac)))) WrongLength
+lineAnswer m = cond (sized m) (Done (one (line (stateOf m .iac)))) (Rejected WrongLength)

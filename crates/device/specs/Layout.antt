@@ -1,68 +1,118 @@
--- The state in 1,813 words of lent memory: 33 of the controller, 12 of the IAC, 136 of each guard.
-use mathlib.Core.List.{List, [], _∷_, _++_}
-use Prim.Native.Nat.{ℕ, zero, suc, _+_}
-use lib.ListN.{getD, take, drop}
-use Rattle.rifsc.specs.declared.contents.Rifsc.{Rifsc}
-use Rattle.iac.specs.declared.contents.Iac.{Iac}
-use Rattle.risaf.specs.declared.contents.Guard.{Guard}
+-- The state in lent memory: its parts, one after the other.
+use mathlib.Core.Bool.{Bool, _&&_, cond}
+use mathlib.Core.List.{List, [], _∷_, _++_, map}
+use Prim.Native.Nat.{ℕ, zero, suc, _+_, _*_}
+use lib.Dec.{eqb, ltb}
+use lib.ListN.{length, getD, take, drop, replicate}
+use Rattle.risaf.specs.Contents.{headWords, guardSize, guardWords, guardFrom}
+use Rattle.risaf.specs.Guards.{guardCount}
 use Rattle.device.specs.State.{State}
 
+-- ---- parts of any sizes
+
+-- where part k begins: behind the parts before it
+abbrev pub placeIn : List ℕ → ℕ → ℕ
+placeIn [] k = 0
+placeIn (n ∷ ns) zero = 0
+placeIn (n ∷ ns) (suc k) = n + placeIn ns k
+
+abbrev pub total : List ℕ → ℕ
+total [] = 0
+total (n ∷ ns) = n + total ns
+
+-- the parts of some words
+unfoldable pub partsOf : List ℕ → List ℕ → List (List ℕ)
+partsOf [] m = []
+partsOf (n ∷ ns) m = take n m ∷ partsOf ns (drop n m)
+
+-- parts, one after the other
+unfoldable pub joined : List (List ℕ) → List ℕ
+joined [] = []
+joined (p ∷ ps) = p ++ joined ps
+
+-- ---- those of the state, in words
+
+-- the parts before the guards', by number
+abbrev pub crPart : ℕ
+crPart = 0
+
+abbrev pub seccfgrPart : ℕ
+seccfgrPart = 1
+
+abbrev pub privcfgrPart : ℕ
+privcfgrPart = 2
+
+abbrev pub rcfglockrPart : ℕ
+rcfglockrPart = 3
+
+abbrev pub rimccrPart : ℕ
+rimccrPart = 4
+
+abbrev pub attrPart : ℕ
+attrPart = 5
+
+abbrev pub ierPart : ℕ
+ierPart = 6
+
+abbrev pub isrPart : ℕ
+isrPart = 7
+
+abbrev pub headSizes : List ℕ
+headSizes =
+    -- RIFSC: CR, SECCFGR, PRIVCFGR, RCFGLOCKR, RIMC_CR, ATTR
+    1 ∷ 6 ∷ 6 ∷ 6 ∷ 1 ∷ 13
+    -- IAC: IER, ISR
+    ∷ 6 ∷ 6
+    ∷ []
+
+-- the guards behind them, in rising number
+abbrev pub guardSizes : List ℕ
+guardSizes = replicate guardCount guardSize
+
+abbrev pub guardsAt : ℕ
+guardsAt = total headSizes
+
 abbrev pub stateWords : ℕ
-stateWords = 1813
+stateWords = guardsAt + guardCount * guardSize
 
--- n words of m from word a on
-abbrev pub part : ℕ → ℕ → List ℕ → List ℕ
-part a n m = take n (drop a m)
+-- ---- a state as parts, and parts as a state
 
--- ---- a state as words
-
-abbrev pub rifscWords : Rifsc → List ℕ
-rifscWords r = r .cr ∷ r .seccfgr ++ r .privcfgr ++ r .rcfglockr ++ r .rimccr ∷ r .attr
-
-abbrev pub iacWords : Iac → List ℕ
-iacWords i = i .ier ++ i .isr
-
-abbrev pub guardWords : Guard → List ℕ
-guardWords g = g .cr ∷ g .iasr ∷ g .iaesr ∷ g .iaddr ∷ g .regions
-
-unfoldable pub guardsWords : List Guard → List ℕ
-guardsWords [] = []
-guardsWords (g ∷ gs) = guardWords g ++ guardsWords gs
+abbrev pub headOf : State → List (List ℕ)
+headOf s =
+    (s .rifsc .cr ∷ []) ∷ s .rifsc .seccfgr ∷ s .rifsc .privcfgr ∷ s .rifsc .rcfglockr ∷ (s .rifsc .rimccr ∷ []) ∷ s .rifsc .attr
+    ∷ s .iac .ier ∷ s .iac .isr
+    ∷ []
 
 unfoldable pub layout : State → List ℕ
-layout s = rifscWords (s .rifsc) ++ iacWords (s .iac) ++ guardsWords (s .guards)
+layout s = joined (headOf s) ++ joined (map guardWords (s .guards))
 
--- ---- words as a state
+-- the only word of a part
+abbrev pub only : List ℕ → ℕ
+only p = getD p 0 0
 
-unfoldable pub rifscFrom : List ℕ → Rifsc
-rifscFrom m =
+-- from the parts before the guards', and those
+abbrev pub stateFrom : List (List ℕ) → List (List ℕ) → State
+stateFrom ps gs =
     record {
-      cr = getD m 0 0;
-      seccfgr = part 1 6 m;
-      privcfgr = part 7 6 m;
-      rcfglockr = part 13 6 m;
-      rimccr = getD m 19 0;
-      attr = part 20 13 m;
+      rifsc =
+          record {
+            cr = only (getD ps crPart []);
+            seccfgr = getD ps seccfgrPart [];
+            privcfgr = getD ps privcfgrPart [];
+            rcfglockr = getD ps rcfglockrPart [];
+            rimccr = only (getD ps rimccrPart []);
+            attr = getD ps attrPart [];
+          };
+      iac = record { ier = getD ps ierPart []; isr = getD ps isrPart [] };
+      guards = map guardFrom gs;
     }
-
-unfoldable pub iacFrom : List ℕ → Iac
-iacFrom m = record { ier = part 33 6 m; isr = part 39 6 m }
-
--- the guard whose words begin at word a
-unfoldable pub guardFrom : ℕ → List ℕ → Guard
-guardFrom a m =
-    record {
-      cr = getD m a 0;
-      iasr = getD m (a + 1) 0;
-      iaesr = getD m (a + 2) 0;
-      iaddr = getD m (a + 3) 0;
-      regions = part (a + 4) 132 m;
-    }
-
--- n guards, 136 words each, from word a on
-unfoldable pub guardsFrom : ℕ → ℕ → List ℕ → List Guard
-guardsFrom zero a m = []
-guardsFrom (suc n) a m = guardFrom a m ∷ guardsFrom n (a + 136) m
 
 unfoldable pub stateOf : List ℕ → State
-stateOf m = record { rifsc = rifscFrom m; iac = iacFrom m; guards = guardsFrom 13 45 m }
+stateOf m = stateFrom (partsOf headSizes m) (partsOf guardSizes (drop guardsAt m))
+
+-- ---- the words of a guard's regions, by its place among the guards; none where there is no such guard, or the words are not a state's
+
+unfoldable pub regionsIn : List ℕ → ℕ → List ℕ
+regionsIn m place =
+    cond (eqb (length m) stateWords && ltb place guardCount)
+    (drop headWords (getD (partsOf guardSizes (drop guardsAt m)) place [])) []

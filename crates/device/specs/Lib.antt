@@ -1,9 +1,11 @@
+-- The whole device.
+--     State      meaning: the state, and reset
+--     Step       meaning: what an event answers and leaves; demand 2
+--     Run        meaning: events one after the other
+--     Applied    meaning: an event on lent memory
+--     Layout     meaning: the state's memory, part by part
 pub mod Applied
-pub mod Batch
-pub mod InPlace
-pub mod Locks
 pub mod Layout
-pub mod Places
 pub mod Run
 pub mod State
 pub mod Step

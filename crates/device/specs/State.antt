@@ -1,9 +1,8 @@
--- The state of the device: the controller, the illegal access controller and the thirteen guards.
-use mathlib.Core.Bool.{cond}
-use mathlib.Core.List.{List}
-use Prim.Native.Nat.{ℕ, _-_}
-use lib.Dec.{leb}
+-- The state of the device: the controller, the illegal access controller and the guards.
+use mathlib.Core.List.{List, []}
+use Prim.Native.Nat.{ℕ}
 use lib.ListN.{getD, set, replicate}
+use Rattle.access.specs.declared.flag.Flag.{Flag}
 use Rattle.rifsc.specs.declared.contents.Rifsc.{Rifsc}
 use Rattle.rifsc.specs.Contents as rifsc
 use Rattle.iac.specs.declared.contents.Iac.{Iac}
@@ -11,6 +10,7 @@ use Rattle.iac.specs.Contents as iac
 use Rattle.iac.specs.Flags.{raise}
 use Rattle.risaf.specs.declared.contents.Guard.{Guard}
 use Rattle.risaf.specs.Contents as risaf
+use Rattle.risaf.specs.Guards.{guardCount, shapeOf}
 
 pub record State : Type 0 where
   pub rifsc : Rifsc
@@ -18,12 +18,12 @@ pub record State : Type 0 where
   -- in rising number
   pub guards : List Guard
 
--- the place of guard n among the thirteen: 1 to 9, then 11 to 14
-unfoldable pub place : ℕ → ℕ
-place n = cond (leb n 9) (n - 1) (n - 2)
+-- the guard at a place among them, and guard n
+abbrev pub guardAt : State → ℕ → Guard
+guardAt s place = getD (s .guards) place (risaf.guardFrom [])
 
 unfoldable pub guardOf : State → ℕ → Guard
-guardOf s n = getD (s .guards) (place n) risaf.reset
+guardOf s n = guardAt s (shapeOf n .place)
 
 abbrev pub withRifsc : State → Rifsc → State
 withRifsc s r = record { rifsc = r; iac = s .iac; guards = s .guards }
@@ -31,12 +31,18 @@ withRifsc s r = record { rifsc = r; iac = s .iac; guards = s .guards }
 abbrev pub withIac : State → Iac → State
 withIac s i = record { rifsc = s .rifsc; iac = i; guards = s .guards }
 
+abbrev pub withGuards : State → List Guard → State
+withGuards s gs = record { rifsc = s .rifsc; iac = s .iac; guards = gs }
+
+abbrev pub withGuardAt : State → ℕ → Guard → State
+withGuardAt s place g = withGuards s (set (s .guards) place g)
+
 unfoldable pub withGuard : State → ℕ → Guard → State
-withGuard s n g = record { rifsc = s .rifsc; iac = s .iac; guards = set (s .guards) (place n) g }
+withGuard s n g = withGuardAt s (shapeOf n .place) g
 
 -- the state with flag i raised
-abbrev pub flagged : ℕ → State → State
+abbrev pub flagged : Flag → State → State
 flagged i s = withIac s (raise i (s .iac))
 
 unfoldable pub resetState : State
-resetState = record { rifsc = rifsc.reset; iac = iac.reset; guards = replicate 13 risaf.reset }
+resetState = record { rifsc = rifsc.reset; iac = iac.reset; guards = replicate guardCount risaf.reset }

@@ -1,10 +1,12 @@
+use crate::blocks::load_iac;
+use crate::blocks::load_rifsc;
 use crate::event::Block;
 use crate::event::Event;
 use crate::event::MasterAccess;
 use crate::event::MemoryAccess;
+use crate::event::PeripheralAccess;
 use crate::event::RegisterAccess;
-use crate::flags::flag_line;
-use crate::lent::word_in;
+use crate::layout::STATE_WORDS;
 use crate::memory::access_memory;
 use crate::peripherals::access_peripheral;
 use crate::registers::access_guard;
@@ -12,17 +14,15 @@ use crate::registers::access_iac;
 use crate::registers::access_rifsc;
 use crate::reset::reset;
 use access::Answer;
+use access::Why;
 ghost use mathlib.Core.Path.{_≡_};
 ghost use lib.ListN.{length};
 ghost use Rattle.device.specs.Applied.{appliedAnswer, appliedState, lineAnswer};
 ghost use Rattle.device.specs.Layout.{stateOf, stateWords};
-ghost use Rattle.device.specs.Step.{registerStep, step};
-ghost use Rattle.device.specs.declared.event.Event.the-variants.{Master};
+ghost use Rattle.device.specs.Step.{registerStep};
+ghost use Rattle.device.specs.declared.event.Event.the-variants.{Master, Memory, Peripheral, Register, Reset};
 
-// How many words the state has.
-pub const STATE_WORDS: usize = 1813;
-
-pub(crate) fn access_register(state: &mut [u32], a: RegisterAccess) -> Answer
+fn access_register(state: &mut [u32], a: RegisterAccess) -> Answer
     requires { ⌜ length (now state) ≡ stateWords ⌝ }
     ensures answer { λ r. ⌜ r ≡ registerStep (a .block) (a .request) (stateOf (now (state .entry))) .answer ⌝ }
     ensures next { λ _. ⌜ stateOf (now (state .exit)) ≡ registerStep (a .block) (a .request) (stateOf (now (state .entry))) .next ⌝ }
@@ -36,45 +36,76 @@ pub(crate) fn access_register(state: &mut [u32], a: RegisterAccess) -> Answer
     }
 }
 
-// A memory access by a master: of the kind that its ATTR says.
-pub(crate) fn access_master(state: &mut [u32], a: MasterAccess) -> Answer
-    requires { ⌜ length (now state) ≡ stateWords ⌝ }
-    ensures answer { λ r. ⌜ r ≡ step (Master a) (stateOf (now (state .entry))) .answer ⌝ }
-    ensures next { λ _. ⌜ stateOf (now (state .exit)) ≡ step (Master a) (stateOf (now (state .entry))) .next ⌝ }
+// ---- each kind of event, for callers that know the kind
+
+pub fn apply_reset(state: &mut [u32]) -> Answer
+    ensures answer { λ r. ⌜ r ≡ appliedAnswer Reset (now (state .entry)) ⌝ }
+    ensures next { λ _. ⌜ now (state .exit) ≡ appliedState Reset (now (state .entry)) ⌝ }
 {
+    if state.len() != STATE_WORDS {
+        return Answer::Rejected(Why::WrongLength);
+    }
+    reset(state);
+    Answer::Done(0)
+}
+
+pub fn apply_register(state: &mut [u32], a: RegisterAccess) -> Answer
+    ensures answer { λ r. ⌜ r ≡ appliedAnswer (Register a) (now (state .entry)) ⌝ }
+    ensures next { λ _. ⌜ now (state .exit) ≡ appliedState (Register a) (now (state .entry)) ⌝ }
+{
+    if state.len() != STATE_WORDS {
+        return Answer::Rejected(Why::WrongLength);
+    }
+    access_register(state, a)
+}
+
+pub fn apply_peripheral(state: &mut [u32], a: PeripheralAccess) -> Answer
+    ensures answer { λ r. ⌜ r ≡ appliedAnswer (Peripheral a) (now (state .entry)) ⌝ }
+    ensures next { λ _. ⌜ now (state .exit) ≡ appliedState (Peripheral a) (now (state .entry)) ⌝ }
+{
+    if state.len() != STATE_WORDS {
+        return Answer::Rejected(Why::WrongLength);
+    }
+    access_peripheral(state, a)
+}
+
+pub fn apply_memory(state: &mut [u32], a: MemoryAccess) -> Answer
+    ensures answer { λ r. ⌜ r ≡ appliedAnswer (Memory a) (now (state .entry)) ⌝ }
+    ensures next { λ _. ⌜ now (state .exit) ≡ appliedState (Memory a) (now (state .entry)) ⌝ }
+{
+    if state.len() != STATE_WORDS {
+        return Answer::Rejected(Why::WrongLength);
+    }
+    access_memory(state, true, a.guard, a.offset, a.width, a.kind)
+}
+
+// A memory access by a master: of the kind that its ATTR says.
+pub fn apply_master(state: &mut [u32], a: MasterAccess) -> Answer
+    ensures answer { λ r. ⌜ r ≡ appliedAnswer (Master a) (now (state .entry)) ⌝ }
+    ensures next { λ _. ⌜ now (state .exit) ≡ appliedState (Master a) (now (state .entry)) ⌝ }
+{
+    if state.len() != STATE_WORDS {
+        return Answer::Rejected(Why::WrongLength);
+    }
     let master = a.master;
-    let attr = word_in(state, 20, 13, master.0 as usize);
-    let kind = rifsc::masters::attributes(attr, a.write);
+    let kind = load_rifsc(state).carried(master, a.write);
     access_memory(state, master.exists(), a.guard, a.offset, a.width, kind)
 }
 
-// An event on a state that has its length.
-fn stepped(state: &mut [u32], event: Event) -> Answer
-    requires { ⌜ length (now state) ≡ stateWords ⌝ }
-    ensures answer { λ r. ⌜ r ≡ step event (stateOf (now (state .entry))) .answer ⌝ }
-    ensures next { λ _. ⌜ stateOf (now (state .exit)) ≡ step event (stateOf (now (state .entry))) .next ⌝ }
-{
-    match event {
-        Event::Reset => {
-            reset(state);
-            Answer::Done(0)
-        }
-        Event::Register(a) => access_register(state, a),
-        Event::Peripheral(a) => access_peripheral(state, a),
-        Event::Memory(a) => access_memory(state, true, a.guard, a.offset, a.width, a.kind),
-        Event::Master(a) => access_master(state, a),
-    }
-}
+// ---- any event
 
 // One event, applied to the state in lent memory: its answer is given back, and what it changes is changed there.
 pub fn apply(state: &mut [u32], event: Event) -> Answer
     ensures answer { λ r. ⌜ r ≡ appliedAnswer event (now (state .entry)) ⌝ }
     ensures next { λ _. ⌜ now (state .exit) ≡ appliedState event (now (state .entry)) ⌝ }
 {
-    if state.len() != STATE_WORDS {
-        return Answer::WrongLength;
+    match event {
+        Event::Reset => apply_reset(state),
+        Event::Register(a) => apply_register(state, a),
+        Event::Peripheral(a) => apply_peripheral(state, a),
+        Event::Memory(a) => apply_memory(state, a),
+        Event::Master(a) => apply_master(state, a),
     }
-    stepped(state, event)
 }
 
 // The interrupt line: value 1 where it is up.
@@ -82,13 +113,7 @@ pub fn interrupt_line(state: &[u32]) -> Answer
     ensures { λ r. ⌜ r ≡ lineAnswer (now (state .entry)) ⌝ }
 {
     if state.len() != STATE_WORDS {
-        return Answer::WrongLength;
+        return Answer::Rejected(Why::WrongLength);
     }
-    let up = flag_line(state, 0)
-        | flag_line(state, 1)
-        | flag_line(state, 2)
-        | flag_line(state, 3)
-        | flag_line(state, 4)
-        | flag_line(state, 5);
-    Answer::Done(up as u32)
+    Answer::Done(load_iac(state).line() as u32)
 }

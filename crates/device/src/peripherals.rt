@@ -1,10 +1,10 @@
+use crate::blocks::load_rifsc;
+use crate::blocks::raise;
 use crate::event::Operation;
 use crate::event::PeripheralAccess;
-use crate::flags::raise;
-use crate::lent::word_in;
-use crate::outcome::is_refused;
 use access::Answer;
 use access::Checks;
+use access::Flag;
 ghost use mathlib.Core.Path.{_≡_};
 ghost use lib.ListN.{length};
 ghost use Rattle.device.specs.Layout.{stateOf, stateWords};
@@ -26,16 +26,13 @@ fn checks_of(state: &[u32], a: PeripheralAccess) -> Checks
 {
     let p = a.peripheral;
     let operation = a.operation;
-    let x = (p.0 / 32) as usize;
-    let sec = word_in(state, 1, 6, x);
-    let privileged = word_in(state, 7, 6, x);
     Checks {
         present: p.exists(),
         aligned: true,
         inside: true,
         fetchless: !is_fetch(operation),
         known: true,
-        allowed: rifsc::peripherals::words_grant(sec, privileged, p, a.secure, a.privileged),
+        allowed: load_rifsc(state).grants(p, a.secure, a.privileged),
         direction: true,
         unlocked: true,
     }
@@ -48,8 +45,8 @@ pub(crate) fn access_peripheral(state: &mut [u32], a: PeripheralAccess) -> Answe
     ensures next { λ _. ⌜ stateOf (now (state .exit)) ≡ peripheralStep a (stateOf (now (state .entry))) .next ⌝ }
 {
     let answer = checks_of(state, a).answer(0);
-    if is_refused(answer) {
-        raise(state, a.peripheral.0);
+    if let Answer::Refused(_) = answer {
+        raise(state, Flag(a.peripheral.0));
     }
     answer
 }

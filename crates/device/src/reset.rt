@@ -1,42 +1,48 @@
+use crate::blocks::put;
+use crate::blocks::store_iac;
+use crate::blocks::store_rifsc;
+use crate::layout::GUARDS;
+use iac::Iac;
+use rifsc::Rifsc;
+use risaf::GUARD_COUNT;
+use risaf::GUARD_WORDS;
+use risaf::HEAD_WORDS;
 ghost use mathlib.Core.Path.{_≡_};
-ghost use Prim.Native.Nat.{_+_, _≤_};
 ghost use lib.ListN.{length};
-ghost use lib.Seq.{paste};
-ghost use Rattle.risaf.specs.Contents.{reset as guardReset};
-ghost use Rattle.device.specs.Layout.{guardWords, layout, stateWords};
-ghost use Rattle.device.specs.State.{resetState};
-
-// Copies words to dst, from index at on.
-fn put(dst: &mut [u32], at: usize, words: &[u32])
-    requires { ⌜ at + length (now words) ≤ length (now dst) ⌝ }
-    ensures { λ _. ⌜ now (dst .exit) ≡ paste (now (dst .entry)) at (now (words .entry)) (length (now (words .entry))) ⌝ }
-{
-    for k in 0..words.len() {
-        dst[at + k] = words[k];
-    }
-}
+ghost use Prim.Native.Nat.{_<_};
+ghost use Rattle.risaf.specs.Contents.{guardFrom, guardSize, guardWords, reset as guardReset};
+ghost use Rattle.risaf.specs.Guards.{guardCount};
+ghost use Rattle.device.specs.Layout.{stateOf, stateWords};
+ghost use Rattle.device.specs.State.{resetState, withGuardAt};
 
 // A guard's words at reset.
-fn guard_words() -> [u32; 136]
+fn guard_words() -> [u32; GUARD_WORDS]
     ensures { λ r. ⌜ r ≡ guardWords guardReset ⌝ }
 {
     let guard = risaf::Guard::reset();
     let regions = guard.regions;
-    let mut words = [0u32; 136];
-    put(&mut words, 4, &regions);
+    let mut words = [0u32; GUARD_WORDS];
+    put(&mut words, HEAD_WORDS, &regions);
     words
+}
+
+// Stores the words of the guard at a place among the guards.
+fn store_guard(state: &mut [u32], place: usize, words: &[u32; GUARD_WORDS])
+    requires { ⌜ (length (now state) ≡ stateWords) × (place < guardCount) × (length (now words) ≡ guardSize) ⌝ }
+    ensures { λ _. ⌜ stateOf (now (state .exit)) ≡ withGuardAt (stateOf (now (state .entry))) place (guardFrom (now (words .entry))) ⌝ }
+{
+    put(state, GUARDS + GUARD_WORDS * place, words);
 }
 
 // Every word its reset value.
 pub(crate) fn reset(state: &mut [u32])
     requires { ⌜ length (now state) ≡ stateWords ⌝ }
-    ensures { λ _. ⌜ now (state .exit) ≡ layout resetState ⌝ }
+    ensures { λ _. ⌜ stateOf (now (state .exit)) ≡ resetState ⌝ }
 {
-    let mut head = [0u32; 45];
-    head[19] = 0x710;
-    put(state, 0, &head);
+    store_rifsc(state, Rifsc::reset());
+    store_iac(state, Iac::reset());
     let guard = guard_words();
-    for i in 0..13 {
-        put(state, 45 + 136 * i, &guard);
+    for i in 0..GUARD_COUNT {
+        store_guard(state, i, &guard);
     }
 }

@@ -121,9 +121,6 @@ width-bound (suc k) n h = go (ltb n 10) refl (width-bound k (n / 10) (omega (ari
 
 -- ---- how long a line is
 
-pub ended-length : (base k n b : ℕ) → length (digitsOf base k n ++ (b ∷ [])) ≡ k + 1
-ended-length base k n b = simp (length-append, digits-length base k n)
-
 pub answer-length : (number value : ℕ) → length (answerLine number value) ≡ widthOf number + 14
 unfolding answerLine decimalText
 answer-length number value =

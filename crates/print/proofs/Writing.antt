@@ -7,7 +7,7 @@ use native.Mathlib.Omega.{arith}
 use borrow.Author.Tests.{le-leb, lt-leb}
 use lib.ListN.{length, take, drop, set, length-append}
 use lib.Seq.{length-take-le, take-length, take-at, drop-append-add, drop-drop, set-split, append-snoc, paste, length-paste}
-use Rattle.print.specs.Writing.{over, written, after}
+use Rattle.print.specs.Writing.{over, bytesWith, placeWith}
 use Rattle.print.specs.Parts.{Wrote}
 
 -- `over` is lib.Seq's paste of the whole part
@@ -31,11 +31,15 @@ over-over out at x y h =
     ∙ ap (λ (n : ℕ). drop n out) sum in
     rw (front, back) (ap (λ (l : List ℕ). l ++ drop (at + length (x ++ y)) out) (append-assoc (take at out) x y))
 
+-- where a part ends, in a buffer as long as before
+pub part-ends : {out out′ part : List ℕ} {at p : ℕ} → Wrote out at part out′ p → (p ≡ at + length part) × (length out′ ≡ length out)
+part-ends {out} {out′} {part} {at} {p} w = (w .next, ap length (w .bytes) ∙ over-length out at part (omega (arith, w .next, w .room)))
+
 pub join : {out out′ out″ : List ℕ} {at p q : ℕ} {x y : List ℕ} → Wrote out at x out′ p → Wrote out′ p y out″ q
     → Wrote out at (x ++ y) out″ q
 join {out} {out′} {out″} {at} {p} {q} {x} {y} a b =
     let l : length (x ++ y) ≡ length x + length y = length-append x y in
-    let k : length out′ ≡ length out = ap length (a .bytes) ∙ over-length out at x (omega (arith, a .next, a .room)) in
+    let k : length out′ ≡ length out = part-ends a .1 in
     record {
       next = omega (arith, a .next, b .next);
       room = omega (arith, b .room);
@@ -61,15 +65,15 @@ one out at b h =
     }
 
 pub whole : {out out′ : List ℕ} {at p : ℕ} {line : List ℕ} → Wrote out at line out′ p
-    → (p ≡ after out at line) × (out′ ≡ written out at line)
-unfolding after written
+    → (p ≡ placeWith out at line) × (out′ ≡ bytesWith out at line)
+unfolding placeWith bytesWith
 whole {out} {out′} {at} {p} {line} w =
     let e = le-leb (at + length line) (length out) (omega (arith, w .next, w .room)) in
     (rw e (w .next), rw e (w .bytes))
 
 pub refused : (out : List ℕ) (at : ℕ) (line : List ℕ) → length out < at + length line
-    → (at ≡ after out at line) × (out ≡ written out at line)
-unfolding after written
+    → (at ≡ placeWith out at line) × (out ≡ bytesWith out at line)
+unfolding placeWith bytesWith
 refused out at line h =
     let e = lt-leb (at + length line) (length out) h in
     (rw e, rw e)

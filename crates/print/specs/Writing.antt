@@ -14,9 +14,9 @@ abbrev pub fits : List ℕ → ℕ → List ℕ → Bool
 fits out at line = leb (at + length line) (length out)
 
 -- what the buffer holds: where there is no room, what it held
-unfoldable pub written : List ℕ → ℕ → List ℕ → List ℕ
-written out at line = cond (fits out at line) (over out at line) out
+unfoldable pub bytesWith : List ℕ → ℕ → List ℕ → List ℕ
+bytesWith out at line = cond (fits out at line) (over out at line) out
 
 -- the next place: where there is no room, the same
-unfoldable pub after : List ℕ → ℕ → List ℕ → ℕ
-after out at line = cond (fits out at line) (at + length line) at
+unfoldable pub placeWith : List ℕ → ℕ → List ℕ → ℕ
+placeWith out at line = cond (fits out at line) (at + length line) at

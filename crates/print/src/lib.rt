@@ -1,5 +1,5 @@
 // Answers and maps as text.
-pub mod print;
+mod print;
 
 pub use print::print_answer;
 pub use print::print_bad;

@@ -15,7 +15,7 @@ ghost use Rattle.print.specs.Print.{
   spanLine,
   widthOf,
 };
-ghost use Rattle.print.specs.Writing.{after, written};
+ghost use Rattle.print.specs.Writing.{bytesWith, placeWith};
 ghost use Rattle.print.specs.Parts.{Wrote};
 
 // Writes the bytes from `at` on. The place after them.
@@ -74,8 +74,8 @@ fn width(n: u64) -> usize
 
 // A label and a number.
 fn print_labelled(out: &mut [u8], at: usize, label: &[u8], n: u64) -> usize
-    ensures next { λ r. ⌜ r ≡ after (now (out .entry)) at (labelLine (now (label .entry)) n) ⌝ }
-    ensures bytes { λ _. ⌜ now (out .exit) ≡ written (now (out .entry)) at (labelLine (now (label .entry)) n) ⌝ }
+    ensures next { λ r. ⌜ r ≡ placeWith (now (out .entry)) at (labelLine (now (label .entry)) n) ⌝ }
+    ensures bytes { λ _. ⌜ now (out .exit) ≡ bytesWith (now (out .entry)) at (labelLine (now (label .entry)) n) ⌝ }
 {
     let count = width(n);
     if out.len() < at {
@@ -93,8 +93,8 @@ fn print_labelled(out: &mut [u8], at: usize, label: &[u8], n: u64) -> usize
 
 // `ans`, number, value.
 pub fn print_answer(out: &mut [u8], at: usize, number: u64, value: u32) -> usize
-    ensures next { λ r. ⌜ r ≡ after (now (out .entry)) at (answerLine number value) ⌝ }
-    ensures bytes { λ _. ⌜ now (out .exit) ≡ written (now (out .entry)) at (answerLine number value) ⌝ }
+    ensures next { λ r. ⌜ r ≡ placeWith (now (out .entry)) at (answerLine number value) ⌝ }
+    ensures bytes { λ _. ⌜ now (out .exit) ≡ bytesWith (now (out .entry)) at (answerLine number value) ⌝ }
 {
     let count = width(number);
     if out.len() < at {
@@ -110,8 +110,8 @@ pub fn print_answer(out: &mut [u8], at: usize, number: u64, value: u32) -> usize
 
 // `span`, start, end, rights. Of start and end the low 32 bits are printed.
 pub fn print_span(out: &mut [u8], at: usize, start: u64, end: u64, rights: u64) -> usize
-    ensures next { λ r. ⌜ r ≡ after (now (out .entry)) at (spanLine start end rights) ⌝ }
-    ensures bytes { λ _. ⌜ now (out .exit) ≡ written (now (out .entry)) at (spanLine start end rights) ⌝ }
+    ensures next { λ r. ⌜ r ≡ placeWith (now (out .entry)) at (spanLine start end rights) ⌝ }
+    ensures bytes { λ _. ⌜ now (out .exit) ≡ bytesWith (now (out .entry)) at (spanLine start end rights) ⌝ }
 {
     if out.len() < at {
         return at;
@@ -127,24 +127,24 @@ pub fn print_span(out: &mut [u8], at: usize, start: u64, end: u64, rights: u64) 
 
 // `guard`, n.
 pub fn print_guard(out: &mut [u8], at: usize, n: GuardNumber) -> usize
-    ensures next { λ r. ⌜ r ≡ after (now (out .entry)) at (guardLine (n .0)) ⌝ }
-    ensures bytes { λ _. ⌜ now (out .exit) ≡ written (now (out .entry)) at (guardLine (n .0)) ⌝ }
+    ensures next { λ r. ⌜ r ≡ placeWith (now (out .entry)) at (guardLine (n .0)) ⌝ }
+    ensures bytes { λ _. ⌜ now (out .exit) ≡ bytesWith (now (out .entry)) at (guardLine (n .0)) ⌝ }
 {
     print_labelled(out, at, b"guard\t", n.0 as u64)
 }
 
 // `end`, the count of spans.
 pub fn print_end(out: &mut [u8], at: usize, count: u64) -> usize
-    ensures next { λ r. ⌜ r ≡ after (now (out .entry)) at (endLine count) ⌝ }
-    ensures bytes { λ _. ⌜ now (out .exit) ≡ written (now (out .entry)) at (endLine count) ⌝ }
+    ensures next { λ r. ⌜ r ≡ placeWith (now (out .entry)) at (endLine count) ⌝ }
+    ensures bytes { λ _. ⌜ now (out .exit) ≡ bytesWith (now (out .entry)) at (endLine count) ⌝ }
 {
     print_labelled(out, at, b"end\t", count)
 }
 
 // `bad`, the line's number.
 pub fn print_bad(out: &mut [u8], at: usize, number: u64) -> usize
-    ensures next { λ r. ⌜ r ≡ after (now (out .entry)) at (badLine number) ⌝ }
-    ensures bytes { λ _. ⌜ now (out .exit) ≡ written (now (out .entry)) at (badLine number) ⌝ }
+    ensures next { λ r. ⌜ r ≡ placeWith (now (out .entry)) at (badLine number) ⌝ }
+    ensures bytes { λ _. ⌜ now (out .exit) ≡ bytesWith (now (out .entry)) at (badLine number) ⌝ }
 {
     print_labelled(out, at, b"bad\t", number)
 }

@@ -21,21 +21,21 @@ use Rattle.map.proofs.Steady.{rows-67}
 use Rattle.print.specs.Bytes.{bytes}
 use Rattle.print.specs.Parts.{Wrote}
 use Rattle.print.specs.Print.{guardLine, endLine}
-use Rattle.print.specs.Writing.{written, after}
+use Rattle.print.specs.Writing.{bytesWith, placeWith}
 use Rattle.print.proofs.Writing.{join}
 use Rattle.response.specs.Response.{answerText, mapText}
 use Rattle.response.specs.Sheet.{sheet, spanLines}
 use Rattle.response.proofs.Written.{label-most, labelled}
 
-pub guard-line : {out out′ : List ℕ} {at p : ℕ} (n : ℕ) → n < 2 ^ 32 → at + 27 ≤ length out → p ≡ after out at (guardLine n)
-    → out′ ≡ written out at (guardLine n) → Wrote out at (guardLine n) out′ p
+pub guard-line : {out out′ : List ℕ} {at p : ℕ} (n : ℕ) → n < 2 ^ 32 → at + 27 ≤ length out → p ≡ placeWith out at (guardLine n)
+    → out′ ≡ bytesWith out at (guardLine n) → Wrote out at (guardLine n) out′ p
 guard-line n few room place text = labelled (bytes "guard\t") n (omega arith) (omega arith) place text
 
 pub guard-most : (n : ℕ) → n < 2 ^ 32 → length (guardLine n) ≤ 27
 guard-most n few = label-most (bytes "guard\t") n (omega arith)
 
-pub end-line : {out out′ : List ℕ} {at p : ℕ} (n : ℕ) → n ≤ 67 → at + 25 ≤ length out → p ≡ after out at (endLine n)
-    → out′ ≡ written out at (endLine n) → Wrote out at (endLine n) out′ p
+pub end-line : {out out′ : List ℕ} {at p : ℕ} (n : ℕ) → n ≤ 67 → at + 25 ≤ length out → p ≡ placeWith out at (endLine n)
+    → out′ ≡ bytesWith out at (endLine n) → Wrote out at (endLine n) out′ p
 end-line n few room place text = labelled (bytes "end\t") n (omega arith) (omega arith) place text
 
 pub sheet-lines : {out out₁ out₂ out₃ : List ℕ} {at p q r : ℕ} (n k : ℕ) (map : List ℕ) → Wrote out at (guardLine n) out₁ p

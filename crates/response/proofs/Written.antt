@@ -14,16 +14,16 @@ use Rattle.spans.specs.Rows.{Rows, none, more, size, start, end, rights, rowsIn
 use Rattle.spans.proofs.Memory.{size-rows}
 use Rattle.print.specs.Parts.{Wrote}
 use Rattle.print.specs.Print.{answerLine, labelLine, spanLine}
-use Rattle.print.specs.Writing.{over, written, after}
+use Rattle.print.specs.Writing.{over, bytesWith, placeWith}
 use Rattle.print.proofs.Digits.{answer-length, label-length, span-length, width-bound}
 use Rattle.print.proofs.Writing.{join}
 use Rattle.response.specs.Response.{answerText, most}
 use Rattle.response.specs.Sheet.{spanLines}
 
 -- a line for which there is room is written whole
-pub roomy : {out out′ line : List ℕ} {at p : ℕ} → at + length line ≤ length out → p ≡ after out at line
-    → out′ ≡ written out at line → Wrote out at line out′ p
-unfolding after written
+pub roomy : {out out′ line : List ℕ} {at p : ℕ} → at + length line ≤ length out → p ≡ placeWith out at line
+    → out′ ≡ bytesWith out at line → Wrote out at line out′ p
+unfolding placeWith bytesWith
 roomy {out} {out′} {line} {at} {p} h place bytes =
     let t = le-leb (at + length line) (length out) h in
     let next : p ≡ at + length line = place ∙ rw t in
@@ -46,7 +46,7 @@ answer-most a =
     omega (arith, answer-length (numberOf a) (valueOf a), width-bound 0 (numberOf a) (number-few a))
 
 pub answered : {out out′ : List ℕ} {at p n v : ℕ} (a : Answer) → at + most ≤ length out → n ≡ numberOf a → v ≡ valueOf a
-    → p ≡ after out at (answerLine n v) → out′ ≡ written out at (answerLine n v) → Wrote out at (answerText a) out′ p
+    → p ≡ placeWith out at (answerLine n v) → out′ ≡ bytesWith out at (answerLine n v) → Wrote out at (answerText a) out′ p
 unfolding answerText
 answered {out} {out′} {at} {p} {n} {v} a room number value place bytes =
     roomy (omega (arith, answer-most a)) (place ∙ rw (number, value)) (bytes ∙ rw (number, value))
@@ -60,11 +60,11 @@ pub label-most : (label : List ℕ) (n : ℕ) → n < 2 ^ 64 → length (labelLi
 label-most label n h = omega (arith, label-length label n, width-bound 19 n (omega arith))
 
 pub labelled : {out out′ : List ℕ} {at p : ℕ} (label : List ℕ) (n : ℕ) → n < 2 ^ 64 → at + length label + 21 ≤ length out
-    → p ≡ after out at (labelLine label n) → out′ ≡ written out at (labelLine label n) → Wrote out at (labelLine label n) out′ p
+    → p ≡ placeWith out at (labelLine label n) → out′ ≡ bytesWith out at (labelLine label n) → Wrote out at (labelLine label n) out′ p
 labelled label n h room place bytes = roomy (omega (arith, label-most label n h)) place bytes
 
-pub spanned : {out out′ : List ℕ} {at p : ℕ} (s e q : ℕ) → at + 40 ≤ length out → p ≡ after out at (spanLine s e q)
-    → out′ ≡ written out at (spanLine s e q) → Wrote out at (spanLine s e q) out′ p
+pub spanned : {out out′ : List ℕ} {at p : ℕ} (s e q : ℕ) → at + 40 ≤ length out → p ≡ placeWith out at (spanLine s e q)
+    → out′ ≡ bytesWith out at (spanLine s e q) → Wrote out at (spanLine s e q) out′ p
 spanned s e q room place bytes = roomy (omega (arith, span-length s e q)) place bytes
 
 -- ---- rows one after the other

@@ -9,8 +9,8 @@ use borrow.Author.Tests.{eq-eqb, ne-eqb}
 use lib.Dec.{eqb}
 use lib.ListN.{length, getD, take, drop, set, length-append, length-set, length-take, drop-of-length-le}
 use lib.Seq.{drop-cons, take-suc-set, append-snoc, getD-take, length-take-le}
-use Rattle.script.specs.Fields.{tab, onto, fieldsOf, field}
-use Rattle.script.specs.Starts.{startsFrom, Cut}
+use Rattle.script.specs.Fields.{tab, onto, fieldsOf, fieldAt}
+use Rattle.script.specs.Starts.{startsFrom, entries, Cut}
 
 -- ---- each field lies between two entries
 
@@ -68,25 +68,25 @@ unfolding onto
 onto-length b [] p = absurd (omega arith)
 onto-length b (f ∷ fs) p = refl
 
-onto-first : (b : ℕ) (fs : List (List ℕ)) → field (onto b fs) 0 ≡ b ∷ field fs 0
+onto-first : (b : ℕ) (fs : List (List ℕ)) → fieldAt (onto b fs) 0 ≡ b ∷ fieldAt fs 0
 unfolding onto
 onto-first b [] = refl
 onto-first b (f ∷ fs) = refl
 
-onto-later : (b : ℕ) (fs : List (List ℕ)) (k : ℕ) → field (onto b fs) (suc k) ≡ field fs (suc k)
+onto-later : (b : ℕ) (fs : List (List ℕ)) (k : ℕ) → fieldAt (onto b fs) (suc k) ≡ fieldAt fs (suc k)
 unfolding onto
 onto-later b [] k = refl
 onto-later b (f ∷ fs) k = refl
 
 -- every field of a line is a part
 abbrev Parts : ℕ → List ℕ → List (List ℕ) → List ℕ → Type 0
-Parts i bs fs starts = (k : ℕ) → k < length fs → Part i bs (field fs k) (getD (i ∷ starts) k 0) (getD starts k 0)
+Parts i bs fs starts = (k : ℕ) → k < length fs → Part i bs (fieldAt fs k) (getD (i ∷ starts) k 0) (getD starts k 0)
 
 onward : (t : Bool) (i b : ℕ) (bs : List ℕ) (fs : List (List ℕ)) (starts : List ℕ) → 0 < length fs → Parts (suc i) bs fs starts
     → Parts i (b ∷ bs) (cond t ([] ∷ fs) (onto b fs)) (cond t (suc i ∷ starts) starts)
 onward true i b bs fs starts p all zero h = nothing i b bs
 onward true i b bs fs starts p all (suc k) h = further i b bs _ _ _ (all k (omega arith))
-onward false i b bs fs starts p all zero h = rw onto-first (longer i b bs (field fs 0) (getD starts 0 0) (all 0 p))
+onward false i b bs fs starts p all zero h = rw onto-first (longer i b bs (fieldAt fs 0) (getD starts 0 0) (all 0 p))
 onward false i b bs fs starts p all (suc k) h =
     let l = onto-length b fs p in
     rw onto-later (further i b bs _ _ _ (all (suc k) (omega arith)))
@@ -114,18 +114,18 @@ starts-length i (b ∷ bs) = go (eqb b tab) (fieldsOf bs) (starts-length (suc i)
 abbrev pub filled : List ℕ → List ℕ → ℕ → ℕ → List ℕ
 filled line table n i = take n table ++ startsFrom i (drop i line)
 
-pub pass-tab : (line table : List ℕ) (n i : ℕ) → i < length line → n < length table → getD line i 0 ≡ 9
+pub pass-tab : (line table : List ℕ) (n i : ℕ) → i < length line → n < length table → getD line i 0 ≡ tab
     → filled line (set table n (i + 1)) (n + 1) (i + 1) ≡ filled line table n i
 unfolding startsFrom
 pass-tab line table n i h m e =
     rw (add-one n, add-one i, drop-cons line i 0, take-suc-set, append-snoc) (rw (eq-eqb (getD line i 0) tab e))
 
-pub pass-other : (line table : List ℕ) (n i : ℕ) → i < length line → (getD line i 0 ≡ 9 → ⊥)
+pub pass-other : (line table : List ℕ) (n i : ℕ) → i < length line → (getD line i 0 ≡ tab → ⊥)
     → filled line table n (i + 1) ≡ filled line table n i
 unfolding startsFrom
 pass-other line table n i h e = rw (add-one, drop-cons line i 0) (rw (ne-eqb (getD line i 0) tab e))
 
-pub pass-end : (line table : List ℕ) (n i : ℕ) → i ≤ length line → length line ≤ i → n < 66 → length table ≡ 66
+pub pass-end : (line table : List ℕ) (n i : ℕ) → i ≤ length line → length line ≤ i → n < entries → length table ≡ entries
     → filled line table n i ≡ 0 ∷ startsFrom 0 line → (n ≡ length (fieldsOf line)) × Cut line (set table n (i + 1))
 unfolding startsFrom
 pass-end line table n i h h′ m long e =
@@ -139,7 +139,7 @@ pass-end line table n i h h′ m long e =
 -- ---- a table that is filled
 
 module _ (line table : List ℕ) (cut : Cut line table) where
-  pub fields-few : length (fieldsOf line) < 66
+  pub fields-few : length (fieldsOf line) < entries
   fields-few = omega (arith, simp length-take at (ap length (cut .starts)), starts-length 0 line, cut .long)
 
   entry : (k : ℕ) → k ≤ length (fieldsOf line) → getD table k 0 ≡ getD (0 ∷ startsFrom 0 line) k 0
@@ -148,5 +148,5 @@ module _ (line table : List ℕ) (cut : Cut line table) where
 
   -- field k lies between entries k and k + 1
   pub placed : (k a z : ℕ) → k < length (fieldsOf line) → a ≡ getD table k 0 → z ≡ getD table (k + 1) 0
-      → Part 0 line (field (fieldsOf line) k) a z
+      → Part 0 line (fieldAt (fieldsOf line) k) a z
   placed k a z h e e′ = rw (e, e′, add-one, entry k (omega arith), entry (suc k) h) (part-of line 0 k h)

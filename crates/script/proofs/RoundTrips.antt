@@ -7,7 +7,7 @@ use native.Mathlib.Nat.{div-add-mod', div-lt-iff-lt-mul, mod-lt, mul-comm, pow-s
 use native.Mathlib.Omega.{arith}
 use borrow.Author.Tests.{ne-eqb, le-leb, lt-leb, lt-ltb, ltb-true, ltb-false}
 use lib.Dec.{ltb, lit<, lit≤}
-use Rattle.script.specs.Numbers.{isDecimal, isHex, digit, every, valueFrom, unpadded, hexOf, decimalOf}
+use Rattle.script.specs.Numbers.{isDecimal, isHex, digit, every, valueFrom, unpadded, hexOf, decimalOf, numberMost}
 use Rattle.print.specs.Print.{character, digitsOf, hexText, widthIn, widthOf, decimalText}
 use Rattle.script.specs.declared.numbers.Number.the-variants.{Value}
 use Rattle.print.proofs.Digits.{digits-length, width-one, width-more}
@@ -137,6 +137,6 @@ decimal-digits : (n : ℕ) → every isDecimal (decimalText n) ≡ true
 unfolding decimalText
 decimal-digits n = digits-every 10 (lit< tt) (lit≤ tt) isDecimal decimal-digit (widthOf n) n
 
-pub decimal-back : (n : ℕ) → n ≤ 4294967295 → decimalOf (decimalText n) ≡ Value n
+pub decimal-back : (n : ℕ) → n ≤ numberMost → decimalOf (decimalText n) ≡ Value n
 unfolding decimalOf
-decimal-back n h = rw (unpadded-text n, decimal-digits n, decimal-value n, le-leb n 4294967295 h)
+decimal-back n h = rw (unpadded-text n, decimal-digits n, decimal-value n, le-leb n numberMost h)

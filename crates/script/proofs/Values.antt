@@ -11,7 +11,7 @@ use borrow.Author.Tests.{eq-eqb, le-leb, lt-leb, lt-ltb, leb-true}
 use lib.Dec.{eqb, leb, ltb, lit<}
 use lib.ListN.{length, getD, drop, drop-of-length-le}
 use lib.Seq.{drop-cons}
-use Rattle.script.specs.Numbers.{isDecimal, isHex, digit, every, valueFrom, numberIf, hexOf, decimalOf}
+use Rattle.script.specs.Numbers.{isDecimal, isHex, digit, every, valueFrom, numberIf, hexOf, decimalOf, numberMost}
 use Rattle.script.specs.declared.numbers.Number.{Number}
 use Rattle.script.specs.declared.numbers.Number.the-variants.{Value, NoNumber}
 
@@ -99,7 +99,7 @@ hex-room n d i h m p =
 
 -- n is read, and bs are left
 abbrev pub decimalFrom : ℕ → List ℕ → Number
-decimalFrom n bs = numberIf (every isDecimal bs && leb (valueFrom 10 n bs) 4294967295) (valueFrom 10 n bs)
+decimalFrom n bs = numberIf (every isDecimal bs && leb (valueFrom 10 n bs) numberMost) (valueFrom 10 n bs)
 
 -- a zero, and more after it
 abbrev pub padded : List ℕ → Bool
@@ -124,7 +124,7 @@ decimal-begin (b ∷ c ∷ s) h p = go (eqb b 48) (rw (lt-ltb 1 (suc (suc (lengt
   where
     go : (t : Bool) → (t && true) ≡ false
         → decimalFrom 0 (b ∷ c ∷ s)
-        ≡ numberIf (not t && every isDecimal (b ∷ c ∷ s) && leb (valueFrom 10 0 (b ∷ c ∷ s)) 4294967295) (valueFrom 10 0 (b ∷ c ∷ s))
+        ≡ numberIf (not t && every isDecimal (b ∷ c ∷ s) && leb (valueFrom 10 0 (b ∷ c ∷ s)) numberMost) (valueFrom 10 0 (b ∷ c ∷ s))
     go true q = absurd (true≢false q)
     go false q = refl
 
@@ -142,9 +142,9 @@ unfolding valueFrom
 value-grows n [] = omega arith
 value-grows n (b ∷ bs) = omega (arith, value-grows (10 * n + digit b) bs)
 
-pub decimal-over : (n : ℕ) (bs : List ℕ) → 4294967295 < n → decimalFrom n bs ≡ NoNumber
-decimal-over n bs h = rw (lt-leb (valueFrom 10 n bs) 4294967295 (omega (arith, value-grows n bs)), and-false (every isDecimal bs))
+pub decimal-over : (n : ℕ) (bs : List ℕ) → numberMost < n → decimalFrom n bs ≡ NoNumber
+decimal-over n bs h = rw (lt-leb (valueFrom 10 n bs) numberMost (omega (arith, value-grows n bs)), and-false (every isDecimal bs))
 
-pub decimal-end : (s : List ℕ) (i n : ℕ) → length s ≤ i → n ≤ 4294967295 → decimalFrom n (drop i s) ≡ Value n
+pub decimal-end : (s : List ℕ) (i n : ℕ) → length s ≤ i → n ≤ numberMost → decimalFrom n (drop i s) ≡ Value n
 unfolding every valueFrom
-decimal-end s i n h p = rw (drop-of-length-le s h, le-leb n 4294967295 p)
+decimal-end s i n h p = rw (drop-of-length-le s h, le-leb n numberMost p)

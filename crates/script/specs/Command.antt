@@ -10,7 +10,8 @@ use Rattle.device.specs.declared.event.Block.the-variants.{Rifsc, Iac, Risaf}
 use Rattle.device.specs.declared.event.Operation.{Operation}
 use Rattle.device.specs.declared.event.Event.the-variants.{Reset, Register, Peripheral, Memory, Master}
 use Rattle.print.specs.Bytes.{bytes}
-use Rattle.script.specs.Fields.{field, fieldsOf, same}
+use Rattle.risaf.specs.declared.guards.GuardNumber.{GuardNumber}
+use Rattle.script.specs.Fields.{lineMost, fieldAt, fieldsOf, same}
 use Rattle.script.specs.Numbers.{hexOf, decimalOf, eitherOf, operationOf}
 use Rattle.script.specs.declared.command.Command.{Command}
 use Rattle.script.specs.declared.command.Command.the-variants.{Event, Map, Bad}
@@ -43,7 +44,7 @@ abbrev pub rightsOr {ℓ} : {A : Type ℓ} → A → Rights → (Bool → Bool �
 rightsOr bad (Are secure privileged) rest = rest secure privileged
 rightsOr bad NoRights rest = bad
 
-abbrev pub targetOr {ℓ} : {A : Type ℓ} → A → Target → (ℕ → ℕ → ℕ → Bool → A) → A
+abbrev pub targetOr {ℓ} : {A : Type ℓ} → A → Target → (GuardNumber → ℕ → ℕ → Bool → A) → A
 targetOr bad (At guard offset width write) rest = rest guard offset width write
 targetOr bad NoTarget rest = bad
 
@@ -54,20 +55,20 @@ abbrev pub writeOf : List ℕ → Choice
 writeOf f = eitherOf (code "w") (code "r") f
 
 -- s/n p/u, from field k on
-unfoldable pub rightsOf : List (List ℕ) → ℕ → Rights
-rightsOf fs k =
-    choiceOr NoRights (eitherOf (code "s") (code "n") (field fs k)) λ secure.
-    choiceOr NoRights (eitherOf (code "p") (code "u") (field fs (k + 1))) λ privileged.
+unfoldable pub rightsFields : List (List ℕ) → ℕ → Rights
+rightsFields fs k =
+    choiceOr NoRights (eitherOf (code "s") (code "n") (fieldAt fs k)) λ secure.
+    choiceOr NoRights (eitherOf (code "p") (code "u") (fieldAt fs (k + 1))) λ privileged.
     Are secure privileged
 
 -- guard offset width r/w, from field k on
-unfoldable pub targetOf : List (List ℕ) → ℕ → Target
-targetOf fs k =
-    numberOr NoTarget (decimalOf (field fs k)) λ guard.
-    numberOr NoTarget (hexOf (field fs (k + 1))) λ offset.
-    numberOr NoTarget (decimalOf (field fs (k + 2))) λ width.
-    choiceOr NoTarget (writeOf (field fs (k + 3))) λ write.
-    At guard offset width write
+unfoldable pub targetFields : List (List ℕ) → ℕ → Target
+targetFields fs k =
+    numberOr NoTarget (decimalOf (fieldAt fs k)) λ guard.
+    numberOr NoTarget (hexOf (fieldAt fs (k + 1))) λ offset.
+    numberOr NoTarget (decimalOf (fieldAt fs (k + 2))) λ width.
+    choiceOr NoTarget (writeOf (fieldAt fs (k + 3))) λ write.
+    At (record { 0 = guard }) offset width write
 
 -- ---- the lines; field fs 0 is the keyword
 
@@ -81,17 +82,17 @@ byKeyword word [] = Bad
 byKeyword word (l ∷ ls) = cond (same word (l .0)) (l .1) (byKeyword word ls)
 
 -- `reset`
-unfoldable pub resetOf : List (List ℕ) → Command
-resetOf fs = exactly 1 fs (Event Reset)
+unfoldable pub resetLine : List (List ℕ) → Command
+resetLine fs = exactly 1 fs (Event Reset)
 
 -- offset r/w data s/n p/u, from field k to the last
-unfoldable pub requestOf : Block → ℕ → List (List ℕ) → Command
-requestOf block k fs =
+unfoldable pub requestFields : Block → ℕ → List (List ℕ) → Command
+requestFields block k fs =
     exactly (k + 5) fs
-    (numberOr Bad (hexOf (field fs k)) λ offset.
-    choiceOr Bad (writeOf (field fs (k + 1))) λ write.
-    numberOr Bad (hexOf (field fs (k + 2))) λ value.
-    rightsOr Bad (rightsOf fs (k + 3)) λ secure privileged.
+    (numberOr Bad (hexOf (fieldAt fs k)) λ offset.
+    choiceOr Bad (writeOf (fieldAt fs (k + 1))) λ write.
+    numberOr Bad (hexOf (fieldAt fs (k + 2))) λ value.
+    rightsOr Bad (rightsFields fs (k + 3)) λ secure privileged.
     Event
     (Register
     (record {
@@ -102,76 +103,75 @@ requestOf block k fs =
 -- `reg` block .., with block `rifsc`, `iac`, or `risaf` with its number as the next field
 unfoldable pub blocksOf : List (List ℕ) → List (List ℕ × Command)
 blocksOf fs =
-    (bytes "rifsc", requestOf Rifsc 2 fs)
-    ∷ (bytes "iac", requestOf Iac 2 fs)
-    ∷ (bytes "risaf", (numberOr Bad (decimalOf (field fs 2)) λ guard. requestOf (Risaf (record { 0 = guard })) 3 fs))
+    (bytes "rifsc", requestFields Rifsc 2 fs)
+    ∷ (bytes "iac", requestFields Iac 2 fs)
+    ∷ (bytes "risaf", (numberOr Bad (decimalOf (fieldAt fs 2)) λ guard. requestFields (Risaf (record { 0 = guard })) 3 fs))
     ∷ []
 
-abbrev pub registerOf : List (List ℕ) → Command
-registerOf fs = byKeyword (field fs 1) (blocksOf fs)
+abbrev pub registerLine : List (List ℕ) → Command
+registerLine fs = byKeyword (fieldAt fs 1) (blocksOf fs)
 
 -- `per` p r/w/x s/n p/u
-unfoldable pub peripheralOf : List (List ℕ) → Command
-peripheralOf fs =
+unfoldable pub peripheralLine : List (List ℕ) → Command
+peripheralLine fs =
     exactly 5 fs
-    (numberOr Bad (decimalOf (field fs 1)) λ p.
-    actionOr Bad (operationOf (field fs 2)) λ operation.
-    rightsOr Bad (rightsOf fs 3) λ secure privileged.
+    (numberOr Bad (decimalOf (fieldAt fs 1)) λ p.
+    actionOr Bad (operationOf (fieldAt fs 2)) λ operation.
+    rightsOr Bad (rightsFields fs 3) λ secure privileged.
     Event
     (Peripheral
     (record { peripheral = record { 0 = p }; operation = operation; secure = secure; privileged = privileged })))
 
 -- `mem` guard offset width r/w cid s/n p/u
-unfoldable pub memoryOf : List (List ℕ) → Command
-memoryOf fs =
+unfoldable pub memoryLine : List (List ℕ) → Command
+memoryLine fs =
     exactly 8 fs
-    (targetOr Bad (targetOf fs 1) λ guard offset width write.
-    numberOr Bad (decimalOf (field fs 5)) λ cid.
-    rightsOr Bad (rightsOf fs 6) λ secure privileged.
+    (targetOr Bad (targetFields fs 1) λ guard offset width write.
+    numberOr Bad (decimalOf (fieldAt fs 5)) λ cid.
+    rightsOr Bad (rightsFields fs 6) λ secure privileged.
     Event
     (Memory
     (record {
-      guard = record { 0 = guard };
+      guard = guard;
       offset = offset;
       width = width;
       kind = record { cid = record { 0 = cid }; write = write; privileged = privileged; secure = secure };
     })))
 
 -- `dma` master guard offset width r/w
-unfoldable pub masterOf : List (List ℕ) → Command
-masterOf fs =
+unfoldable pub masterLine : List (List ℕ) → Command
+masterLine fs =
     exactly 6 fs
-    (numberOr Bad (decimalOf (field fs 1)) λ master.
-    targetOr Bad (targetOf fs 2) λ guard offset width write.
+    (numberOr Bad (decimalOf (fieldAt fs 1)) λ master.
+    targetOr Bad (targetFields fs 2) λ guard offset width write.
     Event
     (Master
     (record {
       master = record { 0 = master };
-      guard = record { 0 = guard };
+      guard = guard;
       offset = offset;
       width = width;
       write = write;
     })))
 
 -- `map` guard
-unfoldable pub mapOf : List (List ℕ) → Command
-mapOf fs = exactly 2 fs (numberOr Bad (decimalOf (field fs 1)) λ guard. Map (record { 0 = guard }))
+unfoldable pub mapLine : List (List ℕ) → Command
+mapLine fs = exactly 2 fs (numberOr Bad (decimalOf (fieldAt fs 1)) λ guard. Map (record { 0 = guard }))
 
 -- ---- any line
 
 unfoldable pub linesOf : List (List ℕ) → List (List ℕ × Command)
 linesOf fs =
-    (bytes "reset", resetOf fs)
-    ∷ (bytes "reg", registerOf fs)
-    ∷ (bytes "per", peripheralOf fs)
-    ∷ (bytes "mem", memoryOf fs)
-    ∷ (bytes "dma", masterOf fs)
-    ∷ (bytes "map", mapOf fs)
+    (bytes "reset", resetLine fs)
+    ∷ (bytes "reg", registerLine fs)
+    ∷ (bytes "per", peripheralLine fs)
+    ∷ (bytes "mem", memoryLine fs)
+    ∷ (bytes "dma", masterLine fs)
+    ∷ (bytes "map", mapLine fs)
     ∷ []
 
 abbrev pub commandIn : List (List ℕ) → Command
-commandIn fs = byKeyword (field fs 0) (linesOf fs)
+commandIn fs = byKeyword (fieldAt fs 0) (linesOf fs)
 
--- at most 64 bytes
 unfoldable pub commandOf : List ℕ → Command
-commandOf line = cond (leb (length line) 64) (commandIn (fieldsOf line)) Bad
+commandOf line = cond (leb (length line) lineMost) (commandIn (fieldsOf line)) Bad

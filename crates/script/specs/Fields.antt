@@ -6,6 +6,10 @@ use Prim.Native.Nat.{ℕ}
 use lib.Dec.{eqb}
 use lib.ListN.{getD}
 
+-- the most bytes of a line
+abbrev pub lineMost : ℕ
+lineMost = 64
+
 abbrev pub tab : ℕ
 tab = code "\t"
 
@@ -22,8 +26,8 @@ fieldsOf (b ∷ bs) =
     cond (eqb b tab) ([] ∷ fs) (onto b fs)
 
 -- field k, counted from 0
-abbrev pub field : List (List ℕ) → ℕ → List ℕ
-field fs k = getD fs k []
+abbrev pub fieldAt : List (List ℕ) → ℕ → List ℕ
+fieldAt fs k = getD fs k []
 
 -- the same bytes
 unfoldable pub same : List ℕ → List ℕ → Bool

@@ -54,10 +54,13 @@ unpadded [] = false
 unpadded (b ∷ []) = true
 unpadded (b ∷ c ∷ bs) = not (eqb b (code "0"))
 
--- at most 4294967295
+-- the most that a decimal number may be
+abbrev pub numberMost : ℕ
+numberMost = 4294967295
+
 unfoldable pub decimalOf : List ℕ → Number
 decimalOf s =
-    numberIf (unpadded s && every isDecimal s && leb (valueFrom 10 0 s) 4294967295) (valueFrom 10 0 s)
+    numberIf (unpadded s && every isDecimal s && leb (valueFrom 10 0 s) numberMost) (valueFrom 10 0 s)
 
 -- ---- letters
 

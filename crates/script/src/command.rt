@@ -2,6 +2,8 @@ use crate::events::master;
 use crate::events::memory;
 use crate::events::peripheral;
 use crate::events::register;
+use crate::fields::LINE_MOST;
+use crate::fields::STARTS;
 use crate::fields::cut;
 use crate::fields::field;
 use crate::fields::is;
@@ -14,7 +16,7 @@ ghost use Prim.Native.Nat.{_<_};
 ghost use lib.ListN.{length};
 ghost use Rattle.script.specs.Fields.{fieldsOf};
 ghost use Rattle.script.specs.Starts.{Cut};
-ghost use Rattle.script.specs.Command.{commandIn, commandOf, mapOf};
+ghost use Rattle.script.specs.Command.{commandIn, commandOf, mapLine};
 
 // What a line asks for.
 pub enum Command {
@@ -24,9 +26,9 @@ pub enum Command {
 }
 
 // `map` guard
-fn map(line: &[u8], starts: &[u8; 66], n: usize) -> Command
+fn map(line: &[u8], starts: &[u8; STARTS], n: usize) -> Command
     requires { ⌜ Cut (now line) (now starts) × (n ≡ length (fieldsOf (now line))) ⌝ }
-    ensures { λ r. ⌜ r ≡ mapOf (fieldsOf (now (line .entry))) ⌝ }
+    ensures { λ r. ⌜ r ≡ mapLine (fieldsOf (now (line .entry))) ⌝ }
 {
     if n != 2 {
         return Command::Bad;
@@ -38,7 +40,7 @@ fn map(line: &[u8], starts: &[u8; 66], n: usize) -> Command
 }
 
 // By the keyword, the first of the n fields.
-fn by_keyword(line: &[u8], starts: &[u8; 66], n: usize) -> Command
+fn by_keyword(line: &[u8], starts: &[u8; STARTS], n: usize) -> Command
     requires { ⌜ Cut (now line) (now starts) × (n ≡ length (fieldsOf (now line))) ⌝ }
     ensures { λ r. ⌜ r ≡ commandIn (fieldsOf (now (line .entry))) ⌝ }
 {
@@ -72,10 +74,10 @@ fn by_keyword(line: &[u8], starts: &[u8; 66], n: usize) -> Command
 pub fn read_line(line: &[u8]) -> Command
     ensures { λ r. ⌜ r ≡ commandOf (now (line .entry)) ⌝ }
 {
-    if 64 < line.len() {
+    if LINE_MOST < line.len() {
         return Command::Bad;
     }
-    let mut starts = [0u8; 66];
+    let mut starts = [0u8; STARTS];
     let n = cut(line, &mut starts);
     by_keyword(line, &starts, n)
 }

@@ -1,4 +1,5 @@
 use crate::command::Command;
+use crate::fields::STARTS;
 use crate::fields::field;
 use crate::fields::is;
 use crate::numbers::Action;
@@ -25,24 +26,24 @@ ghost use Prim.Native.Nat.{_+_, _<_};
 ghost use lib.ListN.{length};
 ghost use Rattle.script.specs.Fields.{fieldsOf};
 ghost use Rattle.script.specs.Starts.{Cut};
-ghost use Rattle.script.specs.Command.{masterOf, memoryOf, peripheralOf, registerOf, requestOf, rightsOf, targetOf};
+ghost use Rattle.script.specs.Command.{masterLine, memoryLine, peripheralLine, registerLine, requestFields, rightsFields, targetFields};
 
 // The reading of s/n p/u: secure, privileged.
-pub enum Rights {
+enum Rights {
     Are(bool, bool),
     NoRights,
 }
 
 // The reading of guard offset width r/w.
-pub enum Target {
-    At(u32, u32, u32, bool),
+enum Target {
+    At(GuardNumber, u32, u32, bool),
     NoTarget,
 }
 
 // s/n p/u, from field k on
-fn rights_at(line: &[u8], starts: &[u8; 66], k: usize) -> Rights
+fn rights_at(line: &[u8], starts: &[u8; STARTS], k: usize) -> Rights
     requires { ⌜ Cut (now line) (now starts) × (k + 1 < length (fieldsOf (now line))) × (k < 8) ⌝ }
-    ensures { λ r. ⌜ r ≡ rightsOf (fieldsOf (now (line .entry))) k ⌝ }
+    ensures { λ r. ⌜ r ≡ rightsFields (fieldsOf (now (line .entry))) k ⌝ }
 {
     let Choice::Made(secure) = either_at(line, starts, k, b's', b'n') else {
         return Rights::NoRights;
@@ -54,9 +55,9 @@ fn rights_at(line: &[u8], starts: &[u8; 66], k: usize) -> Rights
 }
 
 // guard offset width r/w, from field k on
-fn target_at(line: &[u8], starts: &[u8; 66], k: usize) -> Target
+fn target_at(line: &[u8], starts: &[u8; STARTS], k: usize) -> Target
     requires { ⌜ Cut (now line) (now starts) × (k + 3 < length (fieldsOf (now line))) × (k < 8) ⌝ }
-    ensures { λ r. ⌜ r ≡ targetOf (fieldsOf (now (line .entry))) k ⌝ }
+    ensures { λ r. ⌜ r ≡ targetFields (fieldsOf (now (line .entry))) k ⌝ }
 {
     let Number::Value(guard) = decimal_at(line, starts, k) else {
         return Target::NoTarget;
@@ -70,13 +71,13 @@ fn target_at(line: &[u8], starts: &[u8; 66], k: usize) -> Target
     let Choice::Made(write) = either_at(line, starts, k + 3, b'w', b'r') else {
         return Target::NoTarget;
     };
-    Target::At(guard, offset, width, write)
+    Target::At(GuardNumber(guard), offset, width, write)
 }
 
 // offset r/w data s/n p/u, from field k to the last of the n
-fn request(line: &[u8], starts: &[u8; 66], n: usize, k: usize, block: Block) -> Command
+fn request(line: &[u8], starts: &[u8; STARTS], n: usize, k: usize, block: Block) -> Command
     requires { ⌜ Cut (now line) (now starts) × (n ≡ length (fieldsOf (now line))) × (k < 4) ⌝ }
-    ensures { λ r. ⌜ r ≡ requestOf block k (fieldsOf (now (line .entry))) ⌝ }
+    ensures { λ r. ⌜ r ≡ requestFields block k (fieldsOf (now (line .entry))) ⌝ }
 {
     if n != k + 5 {
         return Command::Bad;
@@ -106,9 +107,9 @@ fn request(line: &[u8], starts: &[u8; 66], n: usize, k: usize, block: Block) -> 
 }
 
 // `reg` block offset r/w data s/n p/u
-pub(crate) fn register(line: &[u8], starts: &[u8; 66], n: usize) -> Command
+pub(crate) fn register(line: &[u8], starts: &[u8; STARTS], n: usize) -> Command
     requires { ⌜ Cut (now line) (now starts) × (n ≡ length (fieldsOf (now line))) ⌝ }
-    ensures { λ r. ⌜ r ≡ registerOf (fieldsOf (now (line .entry))) ⌝ }
+    ensures { λ r. ⌜ r ≡ registerLine (fieldsOf (now (line .entry))) ⌝ }
 {
     if n < 3 {
         return Command::Bad;
@@ -130,9 +131,9 @@ pub(crate) fn register(line: &[u8], starts: &[u8; 66], n: usize) -> Command
 }
 
 // `per` p r/w/x s/n p/u
-pub(crate) fn peripheral(line: &[u8], starts: &[u8; 66], n: usize) -> Command
+pub(crate) fn peripheral(line: &[u8], starts: &[u8; STARTS], n: usize) -> Command
     requires { ⌜ Cut (now line) (now starts) × (n ≡ length (fieldsOf (now line))) ⌝ }
-    ensures { λ r. ⌜ r ≡ peripheralOf (fieldsOf (now (line .entry))) ⌝ }
+    ensures { λ r. ⌜ r ≡ peripheralLine (fieldsOf (now (line .entry))) ⌝ }
 {
     if n != 5 {
         return Command::Bad;
@@ -155,9 +156,9 @@ pub(crate) fn peripheral(line: &[u8], starts: &[u8; 66], n: usize) -> Command
 }
 
 // `mem` guard offset width r/w cid s/n p/u
-pub(crate) fn memory(line: &[u8], starts: &[u8; 66], n: usize) -> Command
+pub(crate) fn memory(line: &[u8], starts: &[u8; STARTS], n: usize) -> Command
     requires { ⌜ Cut (now line) (now starts) × (n ≡ length (fieldsOf (now line))) ⌝ }
-    ensures { λ r. ⌜ r ≡ memoryOf (fieldsOf (now (line .entry))) ⌝ }
+    ensures { λ r. ⌜ r ≡ memoryLine (fieldsOf (now (line .entry))) ⌝ }
 {
     if n != 8 {
         return Command::Bad;
@@ -172,7 +173,7 @@ pub(crate) fn memory(line: &[u8], starts: &[u8; 66], n: usize) -> Command
         return Command::Bad;
     };
     Command::Event(Event::Memory(MemoryAccess {
-        guard: GuardNumber(guard),
+        guard,
         offset,
         width,
         kind: Kind {
@@ -185,9 +186,9 @@ pub(crate) fn memory(line: &[u8], starts: &[u8; 66], n: usize) -> Command
 }
 
 // `dma` master guard offset width r/w
-pub(crate) fn master(line: &[u8], starts: &[u8; 66], n: usize) -> Command
+pub(crate) fn master(line: &[u8], starts: &[u8; STARTS], n: usize) -> Command
     requires { ⌜ Cut (now line) (now starts) × (n ≡ length (fieldsOf (now line))) ⌝ }
-    ensures { λ r. ⌜ r ≡ masterOf (fieldsOf (now (line .entry))) ⌝ }
+    ensures { λ r. ⌜ r ≡ masterLine (fieldsOf (now (line .entry))) ⌝ }
 {
     if n != 6 {
         return Command::Bad;
@@ -200,7 +201,7 @@ pub(crate) fn master(line: &[u8], starts: &[u8; 66], n: usize) -> Command
     };
     Command::Event(Event::Master(MasterAccess {
         master: MasterNumber(master),
-        guard: GuardNumber(guard),
+        guard,
         offset,
         width,
         write,

@@ -1,12 +1,18 @@
 ghost use mathlib.Core.Path.{_≡_};
 ghost use Prim.Native.Nat.{_≤_, _<_};
 ghost use lib.ListN.{length};
-ghost use Rattle.script.specs.Fields.{field, fieldsOf, same};
-ghost use Rattle.script.specs.Starts.{Cut};
+ghost use Rattle.script.specs.Fields.{fieldAt, fieldsOf, lineMost, same};
+ghost use Rattle.script.specs.Starts.{Cut, entries};
+
+// The most bytes of a line.
+pub(crate) const LINE_MOST: usize = 64;
+
+// The entries of the table of starts: a line of tabs has a field more than bytes, and the line's end follows.
+pub(crate) const STARTS: usize = LINE_MOST + 2;
 
 // Fills the table with the place where each field starts, and then one past the line's end. The count of fields.
-pub(crate) fn cut(line: &[u8], starts: &mut [u8; 66]) -> usize
-    requires { ⌜ (length (now line) ≤ 64) × (length (now starts) ≡ 66) ⌝ }
+pub(crate) fn cut(line: &[u8], starts: &mut [u8; STARTS]) -> usize
+    requires { ⌜ (length (now line) ≤ lineMost) × (length (now starts) ≡ entries) ⌝ }
     ensures { λ r. ⌜ (r ≡ length (fieldsOf (now (line .entry)))) × Cut (now (line .entry)) (now (starts .exit)) ⌝ }
 {
     starts[0] = 0;
@@ -30,9 +36,9 @@ fn wide(x: u8) -> usize
 }
 
 // Field k, as a part of the line.
-pub(crate) fn field<'a>(line: &'a [u8], starts: &[u8; 66], k: usize) -> &'a [u8]
+pub(crate) fn field<'a>(line: &'a [u8], starts: &[u8; STARTS], k: usize) -> &'a [u8]
     requires { ⌜ Cut (now line) (now starts) × (k < length (fieldsOf (now line))) ⌝ }
-    ensures { λ r. ⌜ now r ≡ field (fieldsOf (now (line .entry))) k ⌝ }
+    ensures { λ r. ⌜ now r ≡ fieldAt (fieldsOf (now (line .entry))) k ⌝ }
 {
     let a = wide(starts[k]);
     let e = wide(starts[k + 1]) - 1;

@@ -1,8 +1,8 @@
 // A line of text as a command, and, from the crate `print`, answers and maps as text.
-pub mod command;
-pub mod events;
-pub mod fields;
-pub mod numbers;
+mod command;
+mod events;
+mod fields;
+mod numbers;
 
 pub use command::Command;
 pub use command::read_line;

@@ -1,27 +1,31 @@
+use crate::fields::STARTS;
 use crate::fields::field;
 use device::Operation;
 ghost use mathlib.Core.Path.{_≡_};
 ghost use mathlib.Core.Bool.{true};
 ghost use Prim.Native.Nat.{_<_};
 ghost use lib.ListN.{length};
-ghost use Rattle.script.specs.Fields.{field, fieldsOf};
+ghost use Rattle.script.specs.Fields.{fieldAt, fieldsOf};
 ghost use Rattle.script.specs.Starts.{Cut};
 ghost use Rattle.script.specs.Numbers.{decimalOf, digit, eitherOf, hexOf, isHex, operationOf};
 
+// The most that a decimal number may be.
+const NUMBER_MOST: u64 = 4294967295;
+
 // A field's reading as a number.
-pub enum Number {
+pub(crate) enum Number {
     Value(u32),
     NoNumber,
 }
 
 // A field's reading as one of two letters.
-pub enum Choice {
+pub(crate) enum Choice {
     Made(bool),
     Neither,
 }
 
 // A field's reading as r, w or x.
-pub enum Action {
+pub(crate) enum Action {
     Of(Operation),
     NoAction,
 }
@@ -74,7 +78,7 @@ fn decimal(s: &[u8]) -> Number
             return Number::NoNumber;
         }
         n = 10 * n + (b - b'0') as u64;
-        if 4294967295 < n {
+        if NUMBER_MOST < n {
             return Number::NoNumber;
         }
         i += 1;
@@ -117,30 +121,30 @@ fn operation(s: &[u8]) -> Action
 
 // ---- the reading of field k of a line
 
-pub(crate) fn hex_at(line: &[u8], starts: &[u8; 66], k: usize) -> Number
+pub(crate) fn hex_at(line: &[u8], starts: &[u8; STARTS], k: usize) -> Number
     requires { ⌜ Cut (now line) (now starts) × (k < length (fieldsOf (now line))) ⌝ }
-    ensures { λ r. ⌜ r ≡ hexOf (field (fieldsOf (now (line .entry))) k) ⌝ }
+    ensures { λ r. ⌜ r ≡ hexOf (fieldAt (fieldsOf (now (line .entry))) k) ⌝ }
 {
     hex(field(line, starts, k))
 }
 
-pub(crate) fn decimal_at(line: &[u8], starts: &[u8; 66], k: usize) -> Number
+pub(crate) fn decimal_at(line: &[u8], starts: &[u8; STARTS], k: usize) -> Number
     requires { ⌜ Cut (now line) (now starts) × (k < length (fieldsOf (now line))) ⌝ }
-    ensures { λ r. ⌜ r ≡ decimalOf (field (fieldsOf (now (line .entry))) k) ⌝ }
+    ensures { λ r. ⌜ r ≡ decimalOf (fieldAt (fieldsOf (now (line .entry))) k) ⌝ }
 {
     decimal(field(line, starts, k))
 }
 
-pub(crate) fn either_at(line: &[u8], starts: &[u8; 66], k: usize, this: u8, that: u8) -> Choice
+pub(crate) fn either_at(line: &[u8], starts: &[u8; STARTS], k: usize, this: u8, that: u8) -> Choice
     requires { ⌜ Cut (now line) (now starts) × (k < length (fieldsOf (now line))) ⌝ }
-    ensures { λ r. ⌜ r ≡ eitherOf this that (field (fieldsOf (now (line .entry))) k) ⌝ }
+    ensures { λ r. ⌜ r ≡ eitherOf this that (fieldAt (fieldsOf (now (line .entry))) k) ⌝ }
 {
     either(field(line, starts, k), this, that)
 }
 
-pub(crate) fn operation_at(line: &[u8], starts: &[u8; 66], k: usize) -> Action
+pub(crate) fn operation_at(line: &[u8], starts: &[u8; STARTS], k: usize) -> Action
     requires { ⌜ Cut (now line) (now starts) × (k < length (fieldsOf (now line))) ⌝ }
-    ensures { λ r. ⌜ r ≡ operationOf (field (fieldsOf (now (line .entry))) k) ⌝ }
+    ensures { λ r. ⌜ r ≡ operationOf (fieldAt (fieldsOf (now (line .entry))) k) ⌝ }
 {
     operation(field(line, starts, k))
 }

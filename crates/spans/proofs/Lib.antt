@@ -1,5 +1,5 @@
 -- The laws of maps. For users of the crate:
---     Maps         the map of f is a map: map-is-map, map-in-memory; and there is no other: is-the-map, are-the-map
+--     Maps         the map of f is a map: map-is-map, map-in-memory; and there is no other: is-the-map
 --     Canonical    two maps are equal exactly where their rights functions agree
 --     Found        what a lookup finds in a map: lookup-finds, lookup-past; and where: at-place, whole-row
 --     Memory       rows as numbers, and rows over the front of numbers: filled-front, filled-rest, filled-length

@@ -10,7 +10,7 @@ use Rattle.spans.specs.Rows.{Rows, none, more, flat, size, filled, start
 use Rattle.spans.specs.Map.{IsMap, mapOf}
 use Rattle.spans.proofs.Order.{below-or, below-or-at}
 use Rattle.spans.proofs.Unique.{Differs, MapRows, map-rows, unique}
-use Rattle.spans.proofs.Memory.{length-flat, flat-more, row-start, row-end, row-rights, size-rows, rows-flat, flat-rows}
+use Rattle.spans.proofs.Memory.{length-flat, flat-more, row-start, row-end, row-rights, size-rows, flat-rows}
 
 -- ---- numbers that have the record are the numbers of the map
 
@@ -40,10 +40,6 @@ module _ {f : ℕ → ℕ} {w n : ℕ} {m : List ℕ} (I : IsMap f w n m) where
   -- a map of f has the numbers of the map of f
   pub is-the-map : (n ≡ size (mapOf f w)) × (take (3 * n) m ≡ flat (mapOf f w))
   is-the-map = (sym (size-rows n m) ∙ ap size are-rows, sym (flat-rows n m (I .tiles .held)) ∙ ap flat are-rows)
-
--- rows whose numbers are a map of f are the map of f
-pub are-the-map : (f : ℕ → ℕ) (w : ℕ) (rs : Rows) → IsMap f w (size rs) (flat rs) → rs ≡ mapOf f w
-are-the-map f w rs I = sym (rw append-nil at (rows-flat rs [])) ∙ are-rows I
 
 -- ---- rows that are a map have the record
 

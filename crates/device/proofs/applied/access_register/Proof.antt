@@ -1,40 +1,33 @@
-use mathlib.Core.Path.{_∙_, ap, sym}
 use borrow.Author.Needs.{needs}
+use mathlib.Core.Path.{_≡_}
+use Rattle.access.specs.declared.answer.Answer.{Answer}
+use Rattle.access.specs.declared.request.Request.{Request}
 use Rattle.device.specs.Layout.{stateOf}
+use Rattle.device.specs.State.{State}
 use Rattle.device.specs.Step.{registerStep}
 use Rattle.device.specs.declared.event.Block.{Block}
 use Rattle.device.proofs.applied.access_register.Statement.{statement}
 use Rattle.device.proofs.applied.access_register.Tie as tie
 
+-- the block is the one that was called for
+by-block : (q : Request) (s : State) {b d : Block} {a : Answer} {t : State} → b ≡ d
+    → (a ≡ registerStep d q s .answer) × (t ≡ registerStep d q s .next) → (a ≡ registerStep b q s .answer) × (t ≡ registerStep b q s .next)
+by-block q s e r = rw e r
+
 returns : tie.Need-returns
 returns c =
-    let s = c .before .before .before .before .before .before .before .before in
-    let a = s .args .a in
-    let m = s .args .state .now in
-    let e = c .before .before .before .before .enum-told .given .1 in (
-      c .before .before .access-rifsc .ensures .0 ∙ sym (ap (λ (b : Block). registerStep b (a .request) (stateOf m) .answer) e),
-      c .before .before .access-rifsc .ensures .1 ∙ sym (ap (λ (b : Block). registerStep b (a .request) (stateOf m) .next) e),
-    )
+    let a = c .before .before .before .before .before .before .before .before .args in
+    by-block (a .a .request) (stateOf (a .state .now)) (c .before .before .before .before .enum-told .given .1) (c .before .before .access-rifsc .ensures)
 
 returns-2 : tie.Need-returns-2
 returns-2 c =
-    let s = c .before .before .before .before .before .before .before .before in
-    let a = s .args .a in
-    let m = s .args .state .now in
-    let e = c .before .before .before .before .enum-told2 .given .1 in (
-      c .before .before .access-iac .ensures .0 ∙ sym (ap (λ (b : Block). registerStep b (a .request) (stateOf m) .answer) e),
-      c .before .before .access-iac .ensures .1 ∙ sym (ap (λ (b : Block). registerStep b (a .request) (stateOf m) .next) e),
-    )
+    let a = c .before .before .before .before .before .before .before .before .args in
+    by-block (a .a .request) (stateOf (a .state .now)) (c .before .before .before .before .enum-told2 .given .1) (c .before .before .access-iac .ensures)
 
 returns-3 : tie.Need-returns-3
 returns-3 c =
-    let s = c .before .before .before .before .before .before .before .before .before in
-    let a = s .args .a in
-    let m = s .args .state .now in
-    let e = c .before .before .before .before .before .block .given .1 in (
-      c .before .before .access-guard .ensures .0 ∙ sym (ap (λ (b : Block). registerStep b (a .request) (stateOf m) .answer) e),
-      c .before .before .access-guard .ensures .1 ∙ sym (ap (λ (b : Block). registerStep b (a .request) (stateOf m) .next) e),
-    )
+    let a = c .before .before .before .before .before .before .before .before .before .args in
+    by-block (a .a .request) (stateOf (a .state .now)) (c .before .before .before .before .before .block .given .1) (c .before .before .access-guard .ensures)
 
 pub access-register-spec : {M : Type 1} → statement M
 access-register-spec =

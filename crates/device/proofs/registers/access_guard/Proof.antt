@@ -1,93 +1,83 @@
--- `device::registers::access_guard` meets its contract: by the answer, what a refusal, a write or nothing leaves.
-use mathlib.Core.Bool.{Bool, _&&_}
-use mathlib.Core.Path.{ap, sym, _∙_}
-use native.Mathlib.Omega.{arith}
 use borrow.Author.Needs.{needs}
-use Rattle.risaf.proofs.Slots.{place-lt}
-use Rattle.device.specs.InPlace.{isDone}
+use mathlib.Core.Path.{ap, _∙_}
+use lib.Dec.{lit<}
+use Rattle.risaf.proofs.RowPlaces.{place-fits}
+use Rattle.risaf.proofs.Shapes.{place-lt}
 use Rattle.device.specs.Layout.{stateOf}
-use Rattle.device.specs.declared.event.Block.the-variants.{Risaf}
-use Rattle.device.proofs.GuardSteps.{asked, base-fits, refused-there, guard-answer, guard-effect}
-use Rattle.device.proofs.Outcomes.{first, second}
-use Rattle.device.proofs.Refusals.{registerRefused}
-use Rattle.device.proofs.RegisterSteps.{register-refused, register-written, register-kept}
+use Rattle.device.specs.State.{flagged}
+use Rattle.device.proofs.GuardSteps.{register-answer, register-written, register-read, register-refused, register-rejected}
 use Rattle.device.proofs.registers.access_guard.Statement.{statement}
 use Rattle.device.proofs.registers.access_guard.Tie as tie
 
-add-end : tie.Need-add-end
-add-end c = let s = c .before .before in omega (arith, base-fits (s .args .state .now) (s .args .guard) (s .pre) (c .guard-base .ensures))
+load-port-requires : tie.Need-load-port-requires
+load-port-requires c κs = (c .before .before .before .before .pre, rw (c .before .before .shape .ensures) (place-lt _))
 
-mul-seen-in : tie.Need-mul-seen-in
-mul-seen-in c = let g = c .before .before in let s = g .before .before in omega (arith, base-fits (s .args .state .now) (s .args .guard) (s .pre) (g .guard-base .ensures))
+store-word-requires : tie.Need-store-word-requires
+store-word-requires c κs =
+    let s = c .before .before .before .before .before .before .before .before .before in
+    (s .before .before .pre, rw (s .shape .ensures) (place-lt _), rw (c .before .before .before .before .before .before .before .before .row-at .ensures) (place-fits _ _))
 
-part-seen-in-end : tie.Need-part-seen-in-end
-part-seen-in-end c = let g = c .before .before .before in let s = g .before .before in omega (arith, base-fits (s .args .state .now) (s .args .guard) (s .pre) (g .guard-base .ensures), s .pre)
-
-refuse-guard-requires : tie.Need-refuse-guard-requires
-refuse-guard-requires c κs =
-    let t = c .before .before in
-    let a = t .before in
-    let r = a .before .before .before .before .before in
-    let b = r .before .before in
-    let s = b .before .before in
-    let k =
-    asked (s .args .state .now) (s .args .guard) (s .args .q) (s .pre) (b .guard-base .ensures) (r .before .shape .ensures) (r .register-at .ensures) (a .before .before .seen-in .ensures) (a .before .exists .ensures) (a .answer .ensures) in
-    (s .pre, refused-there k (sym (t .is-refused .ensures) ∙ c .before .if1 .taken))
+store-word-requires-2 : tie.Need-store-word-requires-2
+store-word-requires-2 c κs =
+    let s = c .before .before .before .before .before .before .before .before in
+    (s .before .before .pre, rw (s .shape .ensures) (place-lt _), lit< tt)
 
 returns : tie.Need-returns
-unfolding registerRefused
 returns c =
-    let f = c .before .before .before .before in
-    let a = f .before .before in
-    let r = a .before .before .before .before .before in
-    let b = r .before .before in
-    let s = b .before .before in
-    let k =
-    asked (s .args .state .now) (s .args .guard) (s .args .q) (s .pre) (b .guard-base .ensures) (r .before .shape .ensures) (r .register-at .ensures) (a .before .before .seen-in .ensures) (a .before .exists .ensures) (a .answer .ensures) in
-    (guard-answer k, c .before .before .refuse-guard .ensures ∙ register-refused (Risaf (s .args .guard)) (s .args .q) (stateOf (s .args .state .now)) (guard-answer k) (sym (f .before .is-refused .ensures) ∙ f .if1 .taken))
-
-add-store : tie.Need-add-store
-add-store c =
-    let r = c .before .before .before .before .before .before .before .before .before .before .before .before .before in
-    let b = r .before .before in
-    let s = b .before .before in
-    omega (arith, base-fits (s .args .state .now) (s .args .guard) (s .pre) (b .guard-base .ensures), c .place .ensures, place-lt (r .register-at .result))
+    let s = c .before .before .before .before .before .before .before .before .before .before .before .before .before .before in
+    let a = s .args in
+    let t = stateOf (a .state .now) in
+    let es = c .before .before .before .before .before .before .before .before .before .before .before .before .shape .ensures in
+    let er = c .before .before .before .before .before .before .before .before .before .before .before .row-at .ensures in
+    let ep = c .before .before .before .before .before .before .before .before .before .load-port .ensures in
+    let ea = c .before .before .before .before .before .before .before .before .access .ensures in (
+      register-answer t (a .guard) (a .q) es er ep ea,
+      register-written t (a .guard) (a .q) es er ep ea (c .before .before .before .before .before .enum-told .given .1) (c .before .before .before .before .if1 .taken) (c .before .before .store-word .ensures),
+    )
 
 returns-2 : tie.Need-returns-2
 returns-2 c =
-    let p = c .before .before .before in
-    let i = p .before .before .before in
-    let d = i .before .before in
-    let a = d .before .before .before in
-    let r = a .before .before .before .before .before in
-    let b = r .before .before in
-    let s = b .before .before in
-    let k =
-    asked (s .args .state .now) (s .args .guard) (s .args .q) (s .pre) (b .guard-base .ensures) (r .before .shape .ensures) (r .register-at .ensures) (a .before .before .seen-in .ensures) (a .before .exists .ensures) (a .answer .ensures) in
-    let w = s .args .q .write in
-    let done = ap (λ (x : Bool). x && w) (sym (d .is-done .ensures)) ∙ i .if2 .taken in (
-      guard-answer k,
-      ap stateOf (c .before .before .store .ensures ∙ rw (p .place .ensures))
-          ∙ guard-effect k (first (isDone (a .answer .result)) w done) (second (isDone (a .answer .result)) w done) (p .before .before .word-written .ensures)
-          ∙ register-written (Risaf (s .args .guard)) (s .args .q) (stateOf (s .args .state .now)) (guard-answer k) (sym (d .before .before .is-refused .ensures) ∙ d .before .if1 .left) done,
+    let s = c .before .before .before .before .before .before .before .before .before .before in
+    let a = s .args in
+    let t = stateOf (a .state .now) in
+    let es = c .before .before .before .before .before .before .before .before .shape .ensures in
+    let er = c .before .before .before .before .before .before .before .row-at .ensures in
+    let ep = c .before .before .before .before .before .load-port .ensures in
+    let ea = c .before .before .before .before .access .ensures in (
+      register-answer t (a .guard) (a .q) es er ep ea,
+      register-read t (a .guard) (a .q) es er ep ea (c .before .enum-told .given .1) (c .if1 .left),
     )
 
 returns-3 : tie.Need-returns-3
 returns-3 c =
-    let d = c .before .before in
-    let a = d .before .before .before in
-    let r = a .before .before .before .before .before in
-    let b = r .before .before in
-    let s = b .before .before in
-    let k =
-    asked (s .args .state .now) (s .args .guard) (s .args .q) (s .pre) (b .guard-base .ensures) (r .before .shape .ensures) (r .register-at .ensures) (a .before .before .seen-in .ensures) (a .before .exists .ensures) (a .answer .ensures) in
-    (guard-answer k, register-kept (Risaf (s .args .guard)) (s .args .q) (stateOf (s .args .state .now)) (guard-answer k) (sym (d .before .before .is-refused .ensures) ∙ d .before .if1 .left) (ap (λ (x : Bool). x && s .args .q .write) (sym (d .is-done .ensures)) ∙ c .if2 .left))
+    let s = c .before .before .before .before .before .before .before .before .before .before .before .before .before .before .before .before .before in
+    let a = s .args in
+    let t = stateOf (a .state .now) in
+    let es = c .before .before .before .before .before .before .before .before .before .before .before .before .before .before .before .shape .ensures in
+    let er = c .before .before .before .before .before .before .before .before .before .before .before .before .before .before .row-at .ensures in
+    let ep = c .before .before .before .before .before .before .before .before .before .before .before .before .load-port .ensures in
+    let ea = c .before .before .before .before .before .before .before .before .before .before .before .access .ensures in (
+      register-answer t (a .guard) (a .q) es er ep ea,
+      register-refused t (a .guard) (a .q) es er ep ea (c .before .before .before .before .before .before .before .before .enum-told2 .given .1) (c .before .before .raise .ensures ∙ ap (flagged _) (c .before .before .before .before .before .before .store-word2 .ensures)),
+    )
+
+returns-4 : tie.Need-returns-4
+returns-4 c =
+    let s = c .before .before .before .before .before .before .before .before .before in
+    let a = s .args in
+    let t = stateOf (a .state .now) in
+    let es = c .before .before .before .before .before .before .before .shape .ensures in
+    let er = c .before .before .before .before .before .before .row-at .ensures in
+    let ep = c .before .before .before .before .load-port .ensures in
+    let ea = c .before .before .before .access .ensures in (
+      register-answer t (a .guard) (a .q) es er ep ea,
+      register-rejected t (a .guard) (a .q) es er ep ea (c .enum-told3 .given .1),
+    )
 
 pub access-guard-spec : {M : Type 1} → statement M
 access-guard-spec =
     tie.close
-    (tie.spec (λ c κs. search needs) add-end (λ c κs. search needs) (λ c κs. search needs) mul-seen-in
-    (λ c. search needs) (λ c. search needs) part-seen-in-end (λ c κs. search needs) (λ c κs. search needs)
-    (λ c κs. search needs) (λ c κs. search needs) refuse-guard-requires (λ c. search needs) returns
-    (λ c κs. search needs) (λ c κs. search needs) (λ c κs. search needs) add-store (λ c κs. search needs)
-    (λ c. search needs) returns-2 (λ c. search needs) returns-3)
+    (tie.spec (λ c κs. search needs) (λ c κs. search needs) load-port-requires (λ c κs. search needs)
+    (λ c. search needs) store-word-requires (λ c. search needs) store-word-requires-2 (λ c κs. search needs)
+    (λ c. search needs) (λ c. search needs) returns (λ c. search needs) returns-2 (λ c. search needs) returns-3
+    (λ c. search needs) returns-4)

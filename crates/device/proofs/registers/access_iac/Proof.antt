@@ -1,59 +1,53 @@
-use mathlib.Core.Bool.{Bool, _&&_}
-use mathlib.Core.Path.{_∙_, ap, sym}
 use borrow.Author.Needs.{needs}
-use Rattle.device.specs.InPlace.{isDone}
+use mathlib.Core.Path.{_≡_, refl, sym, ap, _∙_}
+use Rattle.iac.specs.Port.{stepped}
+use Rattle.iac.specs.declared.contents.Iac.{Iac}
 use Rattle.device.specs.Layout.{stateOf}
-use Rattle.device.specs.declared.event.Block.the-variants.{Iac}
-use Rattle.device.proofs.IacSteps.{iac-answer, iac-effect}
-use Rattle.device.proofs.Outcomes.{second}
-use Rattle.device.proofs.Refusals.{registerRefused}
-use Rattle.device.proofs.RegisterSteps.{register-refused, register-written, register-kept}
+use Rattle.device.specs.State.{withIac}
+use Rattle.device.specs.Step.{iacFlag, Outcome}
+use Rattle.device.proofs.BlockSteps.{iac-read, iac-refused, iac-step, ends-written, ends-read, ends-refused, ends-rejected}
 use Rattle.device.proofs.registers.access_iac.Statement.{statement}
 use Rattle.device.proofs.registers.access_iac.Tie as tie
 
 returns : tie.Need-returns
-unfolding registerRefused
 returns c =
-    let f = c .before .before .before .before in
-    let b = f .before .before in
-    let g = b .before .before .before in
-    let s = g .before .before in
-    let m = s .args .state .now in
-    let q = s .args .q in
-    let ea = iac-answer m q (g .register-at .ensures) (b .before .iac-word .ensures) (b .answer .ensures) in
-    (ea, c .before .before .raise .ensures ∙ register-refused Iac q (stateOf m) ea (sym (f .before .is-refused .ensures) ∙ f .if1 .taken))
+    let s = c .before .before .before .before .before .before .before .before .before .before .before .before in
+    let t = stateOf (s .args .state .now) in
+    let l = c .before .before .before .before .before .before .before .before .before .load-iac .ensures in
+    let x = c .before .before .before .before .before .before .before .before .access in
+    let e = iac-step t (s .args .q) l (x .ensures) in
+    (sym (ap (λ (o : Outcome). o .answer) e), ends-written iacFlag (withIac t) refl e (c .before .before .before .before .before .enum-told .given .1) (c .before .before .store-iac .ensures))
 
 returns-2 : tie.Need-returns-2
 returns-2 c =
-    let p = c .before .before .before .before in
-    let d = p .before .before .before .before in
-    let b = d .before .before .before in
-    let g = b .before .before .before in
-    let s = g .before .before in
-    let m = s .args .state .now in
-    let q = s .args .q in
-    let ea = iac-answer m q (g .register-at .ensures) (b .before .iac-word .ensures) (b .answer .ensures) in
-    let done = ap (λ (x : Bool). x && q .write) (sym (d .is-done .ensures)) ∙ p .before .before .if2 .taken in (
-      ea,
-      ap stateOf (c .before .before .store .ensures ∙ rw (p .iac-place .ensures))
-          ∙ iac-effect m q (g .register-at .ensures) (b .before .iac-word .ensures) (s .pre) (second (isDone (b .answer .result)) (q .write) done) (c .before .before .before .word-written .ensures)
-          ∙ register-written Iac q (stateOf m) ea (sym (d .before .before .is-refused .ensures) ∙ d .before .if1 .left) done,
-    )
+    let s = c .before .before .before .before .before .before .before .before in
+    let t = stateOf (s .args .state .now) in
+    let l = c .before .before .before .before .before .load-iac .ensures in
+    let x = c .before .before .before .before .access in
+    let e = iac-step t (s .args .q) l (x .ensures) in
+    (sym (ap (λ (o : Outcome). o .answer) e), ends-read iacFlag (withIac t) refl e (c .before .enum-told .given .1) (ap (λ o. o .next) (x .ensures) ∙ iac-read _ (s .args .q) (c .if1 .left) ∙ l))
 
 returns-3 : tie.Need-returns-3
 returns-3 c =
-    let d = c .before .before in
-    let b = d .before .before .before in
-    let g = b .before .before .before in
-    let s = g .before .before in
-    let m = s .args .state .now in
-    let q = s .args .q in
-    let ea = iac-answer m q (g .register-at .ensures) (b .before .iac-word .ensures) (b .answer .ensures) in
-    (ea, register-kept Iac q (stateOf m) ea (sym (d .before .before .is-refused .ensures) ∙ d .before .if1 .left) (ap (λ (x : Bool). x && q .write) (sym (d .is-done .ensures)) ∙ c .if2 .left))
+    let s = c .before .before .before .before .before .before .before .before .before .before .before in
+    let t = stateOf (s .args .state .now) in
+    let l = c .before .before .before .before .before .before .before .before .load-iac .ensures in
+    let x = c .before .before .before .before .before .before .before .access in
+    let e = iac-step t (s .args .q) l (x .ensures) in
+    (sym (ap (λ (o : Outcome). o .answer) e), ends-refused iacFlag (withIac t) refl e (c .before .before .before .before .enum-told2 .given .1) (ap (λ o. o .next) (x .ensures) ∙ iac-refused _ (s .args .q) (sym (ap (λ o. o .answer) (x .ensures)) ∙ c .before .before .before .before .enum-told2 .given .1) ∙ l) (c .before .before .raise .ensures))
+
+returns-4 : tie.Need-returns-4
+returns-4 c =
+    let s = c .before .before .before .before .before .before .before in
+    let t = stateOf (s .args .state .now) in
+    let l = c .before .before .before .before .load-iac .ensures in
+    let x = c .before .before .before .access in
+    let e = iac-step t (s .args .q) l (x .ensures) in
+    (sym (ap (λ (o : Outcome). o .answer) e), ends-rejected t (withIac t (x .result .next)) (x .result .answer) iacFlag e (c .enum-told3 .given .1))
 
 pub access-iac-spec : {M : Type 1} → statement M
 access-iac-spec =
     tie.close
-    (tie.spec (λ c κs. search needs) (λ c κs. search needs) (λ c κs. search needs) (λ c κs. search needs)
-    (λ c κs. search needs) (λ c. search needs) returns (λ c κs. search needs) (λ c κs. search needs)
-    (λ c κs. search needs) (λ c κs. search needs) (λ c. search needs) returns-2 (λ c. search needs) returns-3)
+    (tie.spec (λ c κs. search needs) (λ c κs. search needs) (λ c. search needs) (λ c κs. search needs)
+    (λ c. search needs) (λ c κs. search needs) (λ c. search needs) (λ c. search needs) returns (λ c. search needs)
+    returns-2 (λ c. search needs) returns-3 (λ c. search needs) returns-4)

@@ -3,7 +3,7 @@ use native.Mathlib.Omega.{arith}
 use lib.ListN.{length, replicate}
 use lib.Seq.{paste}
 use borrow.Author.Needs.{needs}
-use Rattle.risaf.specs.Contents.{reset}
+use Rattle.risaf.specs.Contents.{headWords, regionsWords, guardSize, reset}
 use Rattle.risaf.specs.declared.contents.Guard.{Guard}
 use Rattle.device.proofs.reset.guard_words.Statement.{statement}
 use Rattle.device.proofs.reset.guard_words.Tie as tie
@@ -11,13 +11,13 @@ use Rattle.device.proofs.reset.guard_words.Tie as tie
 put-requires : tie.Need-put-requires
 unfolding reset
 put-requires c κs =
-    let e : length (c .before .before .before .reset .result .regions) ≡ 132 = ap (λ (g : Guard). length (g .regions)) (c .before .before .before .reset .ensures) in
+    let e : length (c .before .before .before .reset .result .regions) ≡ regionsWords = ap (λ (g : Guard). length (g .regions)) (c .before .before .before .reset .ensures) in
     omega arith
 
 returns : tie.Need-returns
 unfolding reset
 returns c =
-    c .before .put .ensures ∙ ap (λ (g : Guard). paste (replicate 136 0) 4 (g .regions) (length (g .regions))) (c .before .before .before .before .before .reset .ensures)
+    c .before .put .ensures ∙ ap (λ (g : Guard). paste (replicate guardSize 0) headWords (g .regions) (length (g .regions))) (c .before .before .before .before .before .reset .ensures)
 
 pub guard-words-spec : {M : Type 1} → statement M
 guard-words-spec =

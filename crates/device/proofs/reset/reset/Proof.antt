@@ -1,64 +1,58 @@
-use mathlib.Core.List.{List}
+use mathlib.Core.List.{_++_}
 use mathlib.Core.Path.{_≡_, refl, ap, _∙_}
-use Prim.Native.Nat.{ℕ, _+_, _-_, _*_, _≤_}
+use Prim.Native.Nat.{_≤_, _-_}
 use native.Mathlib.Omega.{arith}
-use lib.ListN.{length, take}
-use lib.Seq.{paste}
 use borrow.Author.Needs.{needs}
-use Rattle.risaf.specs.Contents.{reset}
-use Rattle.device.specs.Layout.{stateWords, guardWords, guardsWords}
-use Rattle.device.proofs.Resets.{firstGuards, guards-more, all-guards}
+use lib.ListN.{length, drop, replicate}
+use Rattle.risaf.specs.Contents.{guardSize, guardWords, guardFrom, reset}
+use Rattle.risaf.specs.Guards.{guardCount}
+use Rattle.device.specs.Layout.{stateOf, stateWords}
+use Rattle.device.specs.State.{State, withGuards, withGuardAt}
+use Rattle.device.proofs.StateLayout.{guards-count, guards-more, reset-is}
 use Rattle.device.proofs.reset.reset.Statement.{statement}
 use Rattle.device.proofs.reset.reset.Tie as tie
 
 abbrev Inv-loop : tie.InvT-loop
 Inv-loop state₀ guard i₀ state i =
-    (i ≤ 13) × (length state ≡ stateWords) × (take (45 + 136 * i) state ≡ firstGuards i)
+    (i ≤ guardCount) × (length state ≡ stateWords) × (guard ≡ guardWords reset)
+    × (stateOf state ≡ withGuards (stateOf state₀) (replicate i reset ++ drop i (stateOf state₀ .guards)))
 
 abbrev μ-loop : tie.MeasureT-loop
-μ-loop state₀ guard i₀ state i = 13 - i
+μ-loop state₀ guard i₀ state i = guardCount - i
 
 loop-holds : tie.Need-loop-holds Inv-loop μ-loop
-unfolding guardsWords
-loop-holds c =
-    let p = c .before .before .before in
-    (omega arith, omega (arith, p .put .kept .0, p .before .before .before .before .pre), ap (take 45) (p .put .ensures))
+loop-holds c = (search needs, search needs, c .guard-words .ensures, refl)
 
-put-requires-2 : tie.Need-put-requires-2 Inv-loop μ-loop
+store-guard-requires : tie.Need-store-guard-requires Inv-loop μ-loop
 unfolding reset
-put-requires-2 c κs =
-    let l = c .before .before .before in
-    let e : length (l .before .guard-words .result) ≡ 136 = ap length (l .before .guard-words .ensures) in
-    omega (arith, l .loop .inv .1)
-
-loop-less : tie.Need-loop-less Inv-loop μ-loop
-loop-less c = omega (arith, c .before .before .before .before .before .loop-test .taken)
+store-guard-requires c κs =
+    let l = c .before .before .before .loop in
+    (l .inv .1, c .before .before .loop-test .taken, ap length (l .inv .2))
 
 loop-again : tie.Need-loop-again Inv-loop μ-loop
-unfolding reset
 loop-again c =
-    let u = c .before .before in
-    let t = u .before .before .before in
-    let l = t .before in
-    let g = l .before .guard-words .ensures in (
-      omega (arith, t .loop-test .taken),
-      omega (arith, u .put2 .kept .0, l .loop .inv .1),
-      ap (take (45 + 136 * (l .loop .i + 1))) (u .put2 .ensures ∙ ap (λ (w : List ℕ). paste (l .loop .state) (45 + 136 * l .loop .i) w (length w)) g)
-          ∙ guards-more (l .loop .state) (l .loop .i) (l .loop .inv .1) (t .loop-test .taken) (l .loop .inv .2),
+    let l = c .before .before .before .before .before .before .loop in
+    let u = c .before .before .store-guard in
+    let m = c .before .before .before .before .before .before .before .before .before .before .store-iac .last .0 in (
+      search needs,
+      u .kept .0 ∙ l .inv .1,
+      l .inv .2,
+      u .ensures ∙ rw (l .inv .2, l .inv .3) (guards-more (stateOf m) (l .i) reset (omega (arith, guards-count m))),
     )
-
-same-length : tie.Need-same-length Inv-loop μ-loop
-same-length c = omega (arith, c .before .loop .inv .1, c .before .before .before .before .before .before .before .before .before .pre)
 
 returns : tie.Need-returns Inv-loop μ-loop
 returns c =
-    let l = c .before in
-    let e : l .loop .i ≡ 13 = omega (arith, l .loop .inv .0, c .loop-test .left) in
-    all-guards (l .loop .state) (l .loop .inv .1) (rw e at (l .loop .inv .2))
+    let l = c .before .loop in
+    let e : l .i ≡ guardCount = omega arith in
+    let m = c .before .before .before .before .before .store-iac .last .0 in
+    let i = c .before .before .before .before .before .store-iac .ensures in
+    let r = c .before .before .before .before .before .before .before .before .before .before .store-rifsc .ensures in
+    l .inv .3 ∙ rw e
+    (reset-is (stateOf m) (guards-count m) (ap (λ (s : State). s .rifsc) i ∙ ap (λ (s : State). s .rifsc) r ∙ c .before .before .before .before .before .before .before .before .before .before .before .reset .ensures)
+    (ap (λ (s : State). s .iac) i ∙ c .before .before .before .before .before .before .reset2 .ensures))
 
 pub reset-spec : {M : Type 1} → statement M
 reset-spec =
     tie.close
-    (tie.spec Inv-loop μ-loop (λ c. search needs) (λ c. search needs) (λ c κs. search needs) (λ c κs. search needs)
-    loop-holds (λ c. search needs) (λ c. search needs) (λ c. search needs) put-requires-2 (λ c. search needs)
-    loop-less loop-again same-length returns)
+    (tie.spec Inv-loop μ-loop (λ c κs. search needs) (λ c κs. search needs) (λ c κs. search needs) (λ c κs. search needs)
+    (λ c κs. search needs) loop-holds store-guard-requires (λ c. search needs) (λ c. search needs) loop-again (λ c. search needs) returns)

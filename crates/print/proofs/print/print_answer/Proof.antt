@@ -1,9 +1,10 @@
 -- `print::print::print_answer` meets its contract: its parts, one after the other, are the line.
 use borrow.Author.Needs.{needs}
 use native.Mathlib.Omega.{arith}
+use lib.ListN.{length-append}
 use Rattle.print.specs.Print.{answerLine, decimalText}
-use Rattle.print.proofs.Digits.{answer-length, ended-length}
-use Rattle.print.proofs.Writing.{join, refused, whole}
+use Rattle.print.proofs.Digits.{answer-length, digits-length}
+use Rattle.print.proofs.Writing.{join, part-ends, refused, whole}
 use Rattle.print.proofs.print.print_answer.Statement.{statement}
 use Rattle.print.proofs.print.print_answer.Tie as tie
 
@@ -21,14 +22,7 @@ put-digits-requires-2 : tie.Need-put-digits-requires-2
 put-digits-requires-2 c κs =
     let d = c .before .before .before in
     let a = d .before .before .before .before in
-    omega (
-      arith,
-      d .put-digits .ensures .next,
-      d .put-digits .kept .0,
-      a .put .ensures .next,
-      a .put .kept .0,
-      ended-length 10 (a .before .before .before .before .before .width .result) (a .before .before .before .before .before .before .before .args .number) 9,
-    )
+    omega (arith, simp (length-append, digits-length) at (part-ends (join (a .put .ensures) (d .put-digits .ensures))))
 
 returns-3 : tie.Need-returns-3
 unfolding decimalText answerLine

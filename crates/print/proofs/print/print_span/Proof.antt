@@ -1,9 +1,10 @@
 -- `print::print::print_span` meets its contract: its parts, one after the other, are the line.
 use borrow.Author.Needs.{needs}
 use native.Mathlib.Omega.{arith}
+use lib.ListN.{length-append}
 use Rattle.print.specs.Print.{spanLine}
-use Rattle.print.proofs.Digits.{ended-length, span-length}
-use Rattle.print.proofs.Writing.{join, refused, whole}
+use Rattle.print.proofs.Digits.{digits-length, span-length}
+use Rattle.print.proofs.Writing.{join, part-ends, refused, whole}
 use Rattle.print.proofs.print.print_span.Statement.{statement}
 use Rattle.print.proofs.print.print_span.Tie as tie
 
@@ -22,33 +23,15 @@ put-digits-requires-2 : tie.Need-put-digits-requires-2
 put-digits-requires-2 c κs =
     let d = c .before .before .before in
     let a = d .before .before .before .before in
-    omega (
-      arith,
-      d .put-digits .ensures .next,
-      d .put-digits .kept .0,
-      a .put .ensures .next,
-      a .put .kept .0,
-      ended-length 16 8 (a .before .before .before .before .before .before .args .start) 9,
-    )
+    omega (arith, simp (length-append, digits-length) at (part-ends (join (a .put .ensures) (d .put-digits .ensures))))
 
 put-digits-requires-3 : tie.Need-put-digits-requires-3
 put-digits-requires-3 c κs =
     let e = c .before .before .before in
     let d = e .before .before .before .before in
     let a = d .before .before .before .before in
-    omega (
-      arith,
-      e .put-digits2 .ensures .next,
-      e .put-digits2 .kept .0,
-      d .put-digits .ensures .next,
-      d .put-digits .kept .0,
-      a .put .ensures .next,
-      a .put .kept .0,
-      ended-length 16 8 (a .before .before .before .before .before .before .args .start) 9,
-      ended-length 16 8 (a .before .before .before .before .before .before .args .end) 9,
-      a .before .before .before .if2 .left,
-      a .before .before .before .before .if1 .left,
-    )
+    let w = join (join (a .put .ensures) (d .put-digits .ensures)) (e .put-digits2 .ensures) in
+    omega (arith, simp (length-append, digits-length) at (part-ends w), a .before .before .before .if2 .left, a .before .before .before .before .if1 .left)
 
 returns-3 : tie.Need-returns-3
 unfolding spanLine

@@ -1,13 +1,12 @@
 -- `script::command::by_keyword` meets its contract: the keywords compared so far leave the later lines.
-use borrow.Author.Needs.{needs}
 use mathlib.Core.List.{List}
-use mathlib.Core.Path.{_≡_, sym, ap, _∙_}
+use mathlib.Core.Path.{_≡_, refl, sym, ap, _∙_}
 use Prim.Native.Nat.{ℕ}
 use lib.ListN.{drop}
 use Rattle.script.specs.Fields.{fieldsOf}
-use Rattle.script.specs.Command.{byKeyword, commandIn, linesOf, resetOf}
+use Rattle.script.specs.Command.{byKeyword, commandIn, linesOf, resetLine}
 use Rattle.script.proofs.Cuts.{some-field}
-use Rattle.script.proofs.Lines.{counts, counts-not, its-keyword, other-keyword, told}
+use Rattle.script.proofs.Lines.{its-count, other-count, its-keyword, other-keyword, told}
 use Rattle.script.proofs.command.by_keyword.Statement.{statement}
 use Rattle.script.proofs.command.by_keyword.Tie as tie
 
@@ -49,20 +48,20 @@ field-requires : tie.Need-field-requires
 field-requires c κs = (c .before .pre .0, some-field _)
 
 returns : tie.Need-returns
-unfolding linesOf resetOf
+unfolding linesOf resetLine
 returns c =
     sym
     (past0 (c .before .before .before .before)
     ∙ its-keyword _ _ _ (told (c .before .before .is .ensures) (c .before .if1 .taken))
-    ∙ rw (counts 1 _ (c .before .before .before .before .before .before .pre .1) (c .if2 .taken)))
+    ∙ rw (its-count 1 _ (c .before .before .before .before .before .before .pre .1) (c .if2 .taken)))
 
 returns-2 : tie.Need-returns-2
-unfolding linesOf resetOf
+unfolding linesOf resetLine
 returns-2 c =
     sym
     (past0 (c .before .before .before .before)
     ∙ its-keyword _ _ _ (told (c .before .before .is .ensures) (c .before .if1 .taken))
-    ∙ rw (counts-not 1 _ (c .before .before .before .before .before .before .pre .1) (c .if2 .left)))
+    ∙ rw (other-count 1 _ (c .before .before .before .before .before .before .pre .1) (c .if2 .left)))
 
 returns-3 : tie.Need-returns-3
 unfolding linesOf
@@ -101,8 +100,13 @@ returns-8 c = sym (past6 c)
 pub by-keyword-spec : {M : Type 1} → statement M
 by-keyword-spec =
     tie.close
-    (tie.spec field-requires (λ c. search needs) (λ c κs. search needs) returns returns-2 (λ c. search needs)
-    (λ c κs. search needs) (λ c κs. search needs) returns-3 (λ c. search needs) (λ c κs. search needs)
-    (λ c κs. search needs) returns-4 (λ c. search needs) (λ c κs. search needs) (λ c κs. search needs) returns-5
-    (λ c. search needs) (λ c κs. search needs) (λ c κs. search needs) returns-6 (λ c. search needs)
-    (λ c κs. search needs) (λ c κs. search needs) returns-7 returns-8)
+    (tie.spec field-requires (λ c. refl) (λ c κs. tt) returns returns-2 (λ c. refl) (λ c κs. tt)
+    (λ c κs. c .before .before .before .before .before .before .before .before .pre) returns-3 (λ c. refl) (λ c κs. tt)
+    (λ c κs. c .before .before .before .before .before .before .before .before .before .before .before .pre) returns-4
+    (λ c. refl) (λ c κs. tt)
+    (λ c κs. c .before .before .before .before .before .before .before .before .before .before .before .before .before .before .pre)
+    returns-5 (λ c. refl) (λ c κs. tt)
+    (λ c κs. c .before .before .before .before .before .before .before .before .before .before .before .before .before .before .before .before .before .pre)
+    returns-6 (λ c. refl) (λ c κs. tt)
+    (λ c κs. c .before .before .before .before .before .before .before .before .before .before .before .before .before .before .before .before .before .before .before .before .pre)
+    returns-7 returns-8)

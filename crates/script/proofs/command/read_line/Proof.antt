@@ -2,16 +2,17 @@
 use borrow.Author.Needs.{needs}
 use borrow.Author.Tests.{le-leb, lt-leb}
 use Rattle.script.specs.Command.{commandOf}
+use Rattle.script.specs.Fields.{lineMost}
 use Rattle.script.proofs.command.read_line.Statement.{statement}
 use Rattle.script.proofs.command.read_line.Tie as tie
 
 returns : tie.Need-returns
 unfolding commandOf
-returns c = rw (lt-leb _ 64 (c .if1 .taken))
+returns c = rw (lt-leb _ lineMost (c .if1 .taken))
 
 returns-2 : tie.Need-returns-2
 unfolding commandOf
-returns-2 c = rw (le-leb _ 64 (c .before .before .before .before .if1 .left)) (c .by-keyword .ensures)
+returns-2 c = rw (le-leb _ lineMost (c .before .before .before .before .if1 .left)) (c .by-keyword .ensures)
 
 pub read-line-spec : {M : Type 1} → statement M
 read-line-spec =

@@ -2,14 +2,14 @@
 use borrow.Author.Needs.{needs}
 use borrow.Author.Tests.{not-true, not-false}
 use mathlib.Core.List.{List}
-use mathlib.Core.Path.{_≡_, sym, ap, _∙_}
+use mathlib.Core.Path.{_≡_, refl, sym, ap, _∙_}
 use Prim.Native.Nat.{ℕ}
 use native.Mathlib.Omega.{arith}
 use lib.ListN.{drop}
 use Rattle.device.specs.declared.event.Block.the-variants.{Risaf}
-use Rattle.script.specs.Fields.{field, fieldsOf}
+use Rattle.script.specs.Fields.{fieldAt, fieldsOf}
 use Rattle.script.specs.Numbers.{decimalOf}
-use Rattle.script.specs.Command.{blocksOf, byKeyword, numberOr, registerOf, requestOf}
+use Rattle.script.specs.Command.{blocksOf, byKeyword, numberOr, registerLine, requestFields}
 use Rattle.script.specs.declared.command.Command.the-variants.{Bad}
 use Rattle.script.proofs.Lines.{its-keyword, other-keyword, register-short, told}
 use Rattle.script.proofs.events.register.Statement.{statement}
@@ -20,7 +20,7 @@ fields c = fieldsOf (c .before .before .before .args .line .now)
 
 -- the block is none of the first k
 abbrev Past : ℕ → tie.After-field → Type 0
-Past k c = registerOf (fields c) ≡ byKeyword (c .field .result .now) (drop k (blocksOf (fields c)))
+Past k c = registerLine (fields c) ≡ byKeyword (c .field .result .now) (drop k (blocksOf (fields c)))
 
 past0 : (c : tie.After-field) → Past 0 c
 past0 c = ap (λ (w : List ℕ). byKeyword w (blocksOf (fields c))) (sym (c .field .ensures))
@@ -44,8 +44,8 @@ abbrev block : tie.Else4 → List (List ℕ)
 block c = fields (c .before .before .before .before .before .before .before .before .before)
 
 risaf : (c : tie.Else4)
-    → registerOf (block c)
-    ≡ (numberOr Bad (decimalOf (field (block c) 2)) λ guard. requestOf (Risaf (record { 0 = guard })) 3 (block c))
+    → registerLine (block c)
+    ≡ (numberOr Bad (decimalOf (fieldAt (block c) 2)) λ guard. requestFields (Risaf (record { 0 = guard })) 3 (block c))
 unfolding blocksOf
 risaf c =
     past2 (c .before .before .before)
@@ -82,7 +82,12 @@ returns-6 c =
 pub register-spec : {M : Type 1} → statement M
 register-spec =
     tie.close
-    (tie.spec returns (λ c κs. search needs) (λ c. search needs) (λ c κs. search needs) (λ c κs. search needs)
-    returns-2 (λ c. search needs) (λ c κs. search needs) (λ c κs. search needs) returns-3 (λ c. search needs)
-    (λ c κs. search needs) returns-4 (λ c κs. search needs) (λ c. search needs) (λ c. search needs) returns-5
-    (λ c κs. search needs) returns-6)
+    (tie.spec returns (λ c κs. (c .before .before .pre .0, omega arith)) (λ c. refl) (λ c κs. tt)
+    (λ c κs. (c .before .before .before .before .before .before .pre .0, c .before .before .before .before .before .before .pre .1, omega arith))
+    returns-2 (λ c. refl) (λ c κs. tt)
+    (λ c κs. (c .before .before .before .before .before .before .before .before .before .pre .0, c .before .before .before .before .before .before .before .before .before .pre .1, omega arith))
+    returns-3 (λ c. refl) (λ c κs. tt) returns-4
+    (λ c κs. (c .before .before .before .before .before .before .before .before .before .before .before .before .pre .0, omega arith))
+    (λ c. search needs) (λ c. search needs) returns-5
+    (λ c κs. (c .before .before .before .before .before .before .before .before .before .before .before .before .before .before .before .before .pre .0, c .before .before .before .before .before .before .before .before .before .before .before .before .before .before .before .before .pre .1, omega arith))
+    returns-6)

@@ -1,17 +1,18 @@
 -- `script::events::rights_at` meets its contract: each field read so far says how the line goes on.
 use borrow.Author.Needs.{needs}
-use Rattle.script.specs.Command.{rightsOf}
+use native.Mathlib.Omega.{arith}
+use Rattle.script.specs.Command.{rightsFields}
 use Rattle.script.proofs.Lines.{told}
 use Rattle.script.proofs.events.rights_at.Statement.{statement}
 use Rattle.script.proofs.events.rights_at.Tie as tie
 
 returns : tie.Need-returns
-unfolding rightsOf
+unfolding rightsFields
 returns c =
     rw (told (c .before .before .either-at .ensures) (c .enum-told .given .1))
 
 returns-2 : tie.Need-returns-2
-unfolding rightsOf
+unfolding rightsFields
 returns-2 c =
     let secure = c .before .before .before .before in
     rw (
@@ -20,7 +21,7 @@ returns-2 c =
     )
 
 returns-3 : tie.Need-returns-3
-unfolding rightsOf
+unfolding rightsFields
 returns-3 c =
     let privileged = c .before in
     let secure = privileged .before .before .before .before in
@@ -32,5 +33,6 @@ returns-3 c =
 pub rights-at-spec : {M : Type 1} → statement M
 rights-at-spec =
     tie.close
-    (tie.spec (λ c κs. search needs) (λ c. search needs) (λ c. search needs) returns (λ c. search needs)
-    (λ c κs. search needs) (λ c. search needs) (λ c. search needs) returns-2 returns-3)
+    (tie.spec (λ c κs. (c .before .pre .0, omega arith)) (λ c. search needs) (λ c. search needs) returns (λ c. omega arith)
+    (λ c κs. (c .before .before .before .before .before .pre .0, omega arith)) (λ c. search needs) (λ c. search needs) returns-2
+    returns-3)

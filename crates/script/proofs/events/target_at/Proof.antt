@@ -1,17 +1,18 @@
 -- `script::events::target_at` meets its contract: each field read so far says how the line goes on.
 use borrow.Author.Needs.{needs}
-use Rattle.script.specs.Command.{targetOf}
+use native.Mathlib.Omega.{arith}
+use Rattle.script.specs.Command.{targetFields}
 use Rattle.script.proofs.Lines.{told}
 use Rattle.script.proofs.events.target_at.Statement.{statement}
 use Rattle.script.proofs.events.target_at.Tie as tie
 
 returns : tie.Need-returns
-unfolding targetOf
+unfolding targetFields
 returns c =
     rw (told (c .before .before .decimal-at .ensures) (c .enum-told .given .1))
 
 returns-2 : tie.Need-returns-2
-unfolding targetOf
+unfolding targetFields
 returns-2 c =
     let guard = c .before .before .before .before in
     rw (
@@ -20,7 +21,7 @@ returns-2 c =
     )
 
 returns-3 : tie.Need-returns-3
-unfolding targetOf
+unfolding targetFields
 returns-3 c =
     let offset = c .before .before .before .before in
     let guard = offset .before .before .before .before in
@@ -31,7 +32,7 @@ returns-3 c =
     )
 
 returns-4 : tie.Need-returns-4
-unfolding targetOf
+unfolding targetFields
 returns-4 c =
     let width = c .before .before .before .before in
     let offset = width .before .before .before .before in
@@ -44,7 +45,7 @@ returns-4 c =
     )
 
 returns-5 : tie.Need-returns-5
-unfolding targetOf
+unfolding targetFields
 returns-5 c =
     let write = c .before in
     let width = write .before .before .before .before in
@@ -60,7 +61,10 @@ returns-5 c =
 pub target-at-spec : {M : Type 1} → statement M
 target-at-spec =
     tie.close
-    (tie.spec (λ c κs. search needs) (λ c. search needs) (λ c. search needs) returns (λ c. search needs)
-    (λ c κs. search needs) (λ c. search needs) (λ c. search needs) returns-2 (λ c. search needs)
-    (λ c κs. search needs) (λ c. search needs) (λ c. search needs) returns-3 (λ c. search needs)
-    (λ c κs. search needs) (λ c. search needs) (λ c. search needs) returns-4 returns-5)
+    (tie.spec (λ c κs. (c .before .pre .0, omega arith)) (λ c. search needs) (λ c. search needs) returns (λ c. omega arith)
+    (λ c κs. (c .before .before .before .before .before .pre .0, omega arith)) (λ c. search needs) (λ c. search needs) returns-2
+    (λ c. omega arith)
+    (λ c κs. (c .before .before .before .before .before .before .before .before .before .pre .0, omega arith))
+    (λ c. search needs) (λ c. search needs) returns-3 (λ c. omega arith)
+    (λ c κs. (c .before .before .before .before .before .before .before .before .before .before .before .before .before .pre .0, omega arith))
+    (λ c. search needs) (λ c. search needs) returns-4 returns-5)

@@ -7,7 +7,7 @@ use Prim.Native.Nat.{ℕ, _≤_, _+_, _-_}
 use native.Mathlib.Omega.{arith}
 use lib.ListN.{length, length-set}
 use lib.Seq.{take-suc-set}
-use Rattle.script.specs.Starts.{startsFrom}
+use Rattle.script.specs.Starts.{entries, startsFrom}
 use Rattle.script.proofs.Cuts.{filled, pass-tab, pass-other, pass-end}
 use Rattle.script.proofs.fields.cut.Statement.{statement}
 use Rattle.script.proofs.fields.cut.Tie as tie
@@ -17,7 +17,7 @@ Inv-loop line starts₀ n₀ i₀ starts n i =
     (i ≤ length line)
     × (1 ≤ n)
     × (n ≤ i + 1)
-    × (length starts ≡ 66)
+    × (length starts ≡ entries)
     × (filled line starts n i ≡ 0 ∷ startsFrom 0 line)
 
 abbrev μ-loop : tie.MeasureT-loop
@@ -62,6 +62,6 @@ returns c =
 pub cut-spec : {M : Type 1} → statement M
 cut-spec =
     tie.close
-    (tie.spec Inv-loop μ-loop (λ c. search needs) loop-holds (λ c. search needs) (λ c. search needs)
-    (λ c. search needs) (λ c. search needs) (λ c. search needs) (λ c. search needs) (λ c. search needs) loop-again
-    (λ c. search needs) (λ c. search needs) (λ c. search needs) returns)
+    (tie.spec Inv-loop μ-loop (λ c. omega arith) loop-holds (λ c. omega arith) (λ c. omega arith)
+    (λ c. omega arith) (λ c. omega arith) (λ c. omega arith) (λ c. omega arith) (λ c. omega arith) loop-again
+    (λ c. omega arith) (λ c. omega arith) (λ c. omega arith) returns)

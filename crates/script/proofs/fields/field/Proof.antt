@@ -1,7 +1,8 @@
+-- `script::fields::field` meets its contract: a field lies between two entries of the table.
 use borrow.Author.Needs.{needs}
 use native.Mathlib.Nat.{sub-zero}
 use native.Mathlib.Omega.{arith}
-use Rattle.script.specs.Fields.{field, fieldsOf}
+use Rattle.script.specs.Fields.{fieldAt, fieldsOf}
 use Rattle.script.proofs.Cuts.{Part, placed, fields-few}
 use Rattle.script.proofs.fields.field.Statement.{statement}
 use Rattle.script.proofs.fields.field.Tie as tie
@@ -11,7 +12,7 @@ start c = c .before .before .before .before .before
 
 -- the field's place in the line
 place : (c : tie.After-wide2)
-    → Part 0 (start c .args .line .now) (field (fieldsOf (start c .args .line .now)) (start c .args .k))
+    → Part 0 (start c .args .line .now) (fieldAt (fieldsOf (start c .args .line .now)) (start c .args .k))
     (c .before .before .wide .result) (c .wide2 .result)
 place c = placed _ _ (start c .pre .0) _ _ _ (start c .pre .1) (c .before .before .wide .ensures) (c .wide2 .ensures)
 

@@ -6,13 +6,13 @@ use mathlib.Core.Path.{_≡_, sym, _∙_}
 use Prim.Native.Nat.{ℕ, _≤_, _-_}
 use native.Mathlib.Omega.{arith}
 use lib.ListN.{length, drop, getD}
-use Rattle.script.specs.Numbers.{decimalOf, isDecimal}
+use Rattle.script.specs.Numbers.{decimalOf, isDecimal, numberMost}
 use Rattle.script.proofs.Values.{decimalFrom, decimal-bounds, decimal-empty, decimal-padded, decimal-begin, decimal-step, decimal-stop, decimal-over, decimal-end}
 use Rattle.script.proofs.numbers.decimal.Statement.{statement}
 use Rattle.script.proofs.numbers.decimal.Tie as tie
 
 abbrev Inv-loop : tie.InvT-loop
-Inv-loop s n₀ i₀ n i = (i ≤ length s) × (n ≤ 4294967295) × (decimalFrom n (drop i s) ≡ decimalOf s)
+Inv-loop s n₀ i₀ n i = (i ≤ length s) × (n ≤ numberMost) × (decimalFrom n (drop i s) ≡ decimalOf s)
 
 abbrev μ-loop : tie.MeasureT-loop
 μ-loop s n₀ i₀ n i = length s - i

@@ -1,5 +1,4 @@
 -- `script::numbers::either_at` meets its contract.
-use borrow.Author.Needs.{needs}
 use mathlib.Core.Path.{ap, _∙_}
 use Rattle.script.specs.Numbers.{eitherOf}
 use Rattle.script.proofs.numbers.either_at.Statement.{statement}
@@ -11,4 +10,4 @@ returns c = c .either .ensures ∙ ap (eitherOf _ _) (c .before .field .ensures)
 pub either-at-spec : {M : Type 1} → statement M
 either-at-spec =
     tie.close
-    (tie.spec (λ c κs. search needs) (λ c κs. search needs) returns)
+    (tie.spec (λ c κs. c .before .pre) (λ c κs. tt) returns)

@@ -1,5 +1,4 @@
 -- `script::numbers::hex_at` meets its contract.
-use borrow.Author.Needs.{needs}
 use mathlib.Core.Path.{ap, _∙_}
 use Rattle.script.specs.Numbers.{hexOf}
 use Rattle.script.proofs.numbers.hex_at.Statement.{statement}
@@ -11,4 +10,4 @@ returns c = c .hex .ensures ∙ ap hexOf (c .before .field .ensures)
 pub hex-at-spec : {M : Type 1} → statement M
 hex-at-spec =
     tie.close
-    (tie.spec (λ c κs. search needs) (λ c κs. search needs) returns)
+    (tie.spec (λ c κs. c .before .pre) (λ c κs. tt) returns)

@@ -1,5 +1,4 @@
 -- `script::numbers::operation_at` meets its contract.
-use borrow.Author.Needs.{needs}
 use mathlib.Core.Path.{ap, _∙_}
 use Rattle.script.specs.Numbers.{operationOf}
 use Rattle.script.proofs.numbers.operation_at.Statement.{statement}
@@ -11,4 +10,4 @@ returns c = c .operation .ensures ∙ ap operationOf (c .before .field .ensures)
 pub operation-at-spec : {M : Type 1} → statement M
 operation-at-spec =
     tie.close
-    (tie.spec (λ c κs. search needs) (λ c κs. search needs) returns)
+    (tie.spec (λ c κs. c .before .pre) (λ c κs. tt) returns)

@@ -1,0 +1,122 @@
+// The blocks by value, out of the state's memory and into it.
+use crate::layout::ATTR;
+use crate::layout::CR;
+use crate::layout::IER;
+use crate::layout::ISR;
+use crate::layout::PRIVCFGR;
+use crate::layout::RCFGLOCKR;
+use crate::layout::RIMC_CR;
+use crate::layout::SECCFGR;
+use access::Flag;
+use iac::Iac;
+use rifsc::Rifsc;
+ghost use mathlib.Core.Path.{_≡_};
+ghost use Prim.Native.Nat.{_+_, _≤_};
+ghost use lib.ListN.{drop, length, take};
+ghost use lib.Seq.{paste};
+ghost use Rattle.device.specs.Layout.{stateOf, stateWords};
+ghost use Rattle.device.specs.State.{flagged, withIac, withRifsc};
+
+// Copies words to dst, from index at on.
+pub(crate) fn put(dst: &mut [u32], at: usize, words: &[u32])
+    requires { ⌜ at + length (now words) ≤ length (now dst) ⌝ }
+    ensures { λ _. ⌜ now (dst .exit) ≡ paste (now (dst .entry)) at (now (words .entry)) (length (now (words .entry))) ⌝ }
+{
+    for k in 0..words.len() {
+        dst[at + k] = words[k];
+    }
+}
+
+// The six words from at on.
+fn six(state: &[u32], at: usize) -> [u32; 6]
+    requires { ⌜ at + 6 ≤ length (now state) ⌝ }
+    ensures { λ r. ⌜ r ≡ take 6 (drop at (now (state .entry))) ⌝ }
+{
+    let mut words = [0u32; 6];
+    put(&mut words, 0, &state[at..at + 6]);
+    words
+}
+
+// The thirteen words from at on.
+fn thirteen(state: &[u32], at: usize) -> [u32; 13]
+    requires { ⌜ at + 13 ≤ length (now state) ⌝ }
+    ensures { λ r. ⌜ r ≡ take 13 (drop at (now (state .entry))) ⌝ }
+{
+    let mut words = [0u32; 13];
+    put(&mut words, 0, &state[at..at + 13]);
+    words
+}
+
+// Stores six words from at on.
+fn store_six(state: &mut [u32], at: usize, words: [u32; 6])
+    requires { ⌜ at + 6 ≤ length (now state) ⌝ }
+    ensures { λ _. ⌜ (length words ≡ 6) × (now (state .exit) ≡ paste (now (state .entry)) at words (length words)) ⌝ }
+{
+    put(state, at, &words);
+}
+
+// Stores thirteen words from at on.
+fn store_thirteen(state: &mut [u32], at: usize, words: [u32; 13])
+    requires { ⌜ at + 13 ≤ length (now state) ⌝ }
+    ensures { λ _. ⌜ (length words ≡ 13) × (now (state .exit) ≡ paste (now (state .entry)) at words (length words)) ⌝ }
+{
+    put(state, at, &words);
+}
+
+pub(crate) fn load_rifsc(state: &[u32]) -> Rifsc
+    requires { ⌜ length (now state) ≡ stateWords ⌝ }
+    ensures { λ r. ⌜ r ≡ stateOf (now (state .entry)) .rifsc ⌝ }
+{
+    Rifsc {
+        cr: state[CR],
+        seccfgr: six(state, SECCFGR),
+        privcfgr: six(state, PRIVCFGR),
+        rcfglockr: six(state, RCFGLOCKR),
+        rimccr: state[RIMC_CR],
+        attr: thirteen(state, ATTR),
+    }
+}
+
+pub(crate) fn store_rifsc(state: &mut [u32], r: Rifsc)
+    requires { ⌜ length (now state) ≡ stateWords ⌝ }
+    ensures { λ _. ⌜ stateOf (now (state .exit)) ≡ withRifsc (stateOf (now (state .entry))) r ⌝ }
+{
+    let seccfgr = r.seccfgr;
+    let privcfgr = r.privcfgr;
+    let rcfglockr = r.rcfglockr;
+    let attr = r.attr;
+    store_six(state, SECCFGR, seccfgr);
+    store_six(state, PRIVCFGR, privcfgr);
+    store_six(state, RCFGLOCKR, rcfglockr);
+    store_thirteen(state, ATTR, attr);
+    state[CR] = r.cr;
+    state[RIMC_CR] = r.rimccr;
+}
+
+pub(crate) fn load_iac(state: &[u32]) -> Iac
+    requires { ⌜ length (now state) ≡ stateWords ⌝ }
+    ensures { λ r. ⌜ r ≡ stateOf (now (state .entry)) .iac ⌝ }
+{
+    Iac {
+        ier: six(state, IER),
+        isr: six(state, ISR),
+    }
+}
+
+pub(crate) fn store_iac(state: &mut [u32], i: Iac)
+    requires { ⌜ length (now state) ≡ stateWords ⌝ }
+    ensures { λ _. ⌜ stateOf (now (state .exit)) ≡ withIac (stateOf (now (state .entry))) i ⌝ }
+{
+    let ier = i.ier;
+    let isr = i.isr;
+    store_six(state, IER, ier);
+    store_six(state, ISR, isr);
+}
+
+// Raises a flag.
+pub(crate) fn raise(state: &mut [u32], flag: Flag)
+    requires { ⌜ length (now state) ≡ stateWords ⌝ }
+    ensures { λ _. ⌜ stateOf (now (state .exit)) ≡ flagged flag (stateOf (now (state .entry))) ⌝ }
+{
+    store_iac(state, load_iac(state).raise(flag));
+}
