@@ -5,7 +5,7 @@ use mathlib.Core.Path.{_≡_, ap, _∙_}
 use Prim.Native.Nat.{ℕ, zero, suc, _+_, _-_, _≤_, _<_}
 use native.Mathlib.Omega.{arith}
 use Rattle.words.specs.Bit.{bit}
-use Rattle.access.specs.Kind.{placeOf}
+use Rattle.access.specs.Kind.{rightsBit}
 use Rattle.risaf.specs.Guards.{isGuard, shapeOf}
 use Rattle.spans.specs.Map.{Tiles, IsMap}
 use Rattle.spans.specs.Rows.{end, size, filled}
@@ -41,7 +41,7 @@ demand-3 s n l h =
       tiles = i .tiles;
       exact =
           λ j x k hj low high c.
-          ap (λ (q : ℕ). bit q (placeOf k)) (i .exact j x hj low high) ∙ bit-grants s n x h (omega (arith, end-below (i .tiles) j hj)) k c;
+          ap (λ (q : ℕ). bit q (rightsBit k)) (i .exact j x hj low high) ∙ bit-grants s n x h (omega (arith, end-below (i .tiles) j hj)) k c;
       differ = i .differ;
       most = rows-67 s n;
     }

@@ -8,12 +8,12 @@ use borrow.Author.Tests.{eq-eqb, le-leb, lt-ltb}
 use Rattle.words.specs.Bit.{bit}
 use Rattle.words.proofs.Laws.{word-cong}
 use Rattle.access.specs.Answer.{numberOf}
-use Rattle.access.specs.Checks.{unless, answered}
-use Rattle.access.specs.Kind.{kindOf, placeOf}
+use Rattle.access.specs.Checks.{unless, answered, reached}
+use Rattle.access.specs.Kind.{kindOf, rightsBit}
 use Rattle.access.specs.declared.answer.Answer.the-variants.{Done, Refused}
 use Rattle.access.specs.declared.kind.Kind.{Kind}
 use Rattle.risaf.specs.Guards.{isGuard, shapeOf}
-use Rattle.risaf.specs.Memory.{checksOf, answerOf, accessed}
+use Rattle.risaf.specs.Memory.{memoryStepped, memoryAnswer, memoryChecks}
 use Rattle.regions.specs.Rights.{rights}
 use Rattle.regions.specs.Rules.{decided}
 use Rattle.regions.proofs.RightsBits.{rights-bit}
@@ -23,19 +23,19 @@ use Rattle.map.specs.Demand.{grantsAt}
 use Rattle.map.specs.Map.{rightsOf}
 
 -- done exactly when the last check that can fail is passed
-done : (v : Bool) (rule : ℕ) → eqb (numberOf (unless v Refused (Done rule))) 0 ≡ v
+done : (v : Bool) (rule : ℕ) → eqb (numberOf (unless v (Refused 0) (Done rule))) 0 ≡ v
 done true rule = refl
 done false rule = refl
 
 module _ (s : State) (n o : ℕ) (hn : isGuard n ≡ true) (ho : o < shapeOf n .window) where
   grants-decided : (k : Kind) → k .cid .0 ≤ 7 → grantsAt s n o k ≡ decided (guardOf s n .regions) (shapeOf n .regions) o k .granted
-  unfolding grantsAt step memoryStep accessed answerOf checksOf answered
+  unfolding grantsAt step memoryStep memoryStepped memoryAnswer memoryChecks answered reached
   grants-decided k hk =
       let v = decided (guardOf s n .regions) (shapeOf n .regions) o k in
       simp (hn, le-leb (k .cid .0) 7 hk, eq-eqb (o % 1) 0 (omega arith), lt-ltb o (shapeOf n .window) ho) (done (v .granted) (v .rule))
 
   -- each bit is the answer to its kind of asking
-  pub bit-grants : (k : Kind) → k .cid .0 ≤ 7 → bit (rightsOf s n o) (placeOf k) ≡ grantsAt s n o k
+  pub bit-grants : (k : Kind) → k .cid .0 ≤ 7 → bit (rightsOf s n o) (rightsBit k) ≡ grantsAt s n o k
   unfolding rightsOf
   bit-grants k hk = rights-bit (guardOf s n .regions) (shapeOf n .regions) o k hk ∙ sym (grants-decided k hk)
 

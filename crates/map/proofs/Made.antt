@@ -14,17 +14,18 @@ use Rattle.spans.specs.Map.{mapOf}
 use Rattle.spans.specs.Rows.{Rows, filled, size}
 use Rattle.device.specs.State.{guardOf}
 use Rattle.device.specs.Layout.{stateWords, stateOf}
-use Rattle.map.specs.Fill.{leastRoom, fillAnswer, fillUsed, fillNumbers}
+use Rattle.map.specs.Fill.{rowNumbers, leastRoom, fillAnswer, fillUsed, fillNumbers}
 use Rattle.map.specs.Map.{rightsOf, rowsOf}
-use Rattle.map.proofs.Guards.{small, regions-length}
+use Rattle.regions.specs.Words.{base, mostRegions}
+use Rattle.map.proofs.Guards.{small, guard-regions-length}
 
 module _ (m : List ℕ) (n : ℕ) (l : List ℕ) (hm : length m ≡ stateWords) (hl : leastRoom ≤ length l) (hn : isGuard n ≡ true)
     {shape : Shape} {w : List ℕ} (es : shape ≡ shapeOf n) (ew : w ≡ guardOf (stateOf m) n .regions) where
   -- a sweep can be made
-  pub sweepable : (shape .regions ≤ 11) × (12 * shape .regions ≤ length w) × (shape .window ≤ 2 ^ 32) × (leastRoom ≤ length l)
+  pub sweepable : (shape .regions ≤ mostRegions) × (base (shape .regions) ≤ length w) × (shape .window ≤ 2 ^ 32) × (leastRoom ≤ length l)
   sweepable =
-      let k : shape .regions ≤ 11 = rw es (small n .0) in
-      (k, rw ew (omega (arith, regions-length m n hm hn)), rw es (small n .1), hl)
+      let k : shape .regions ≤ mostRegions = rw es (small n .0) in
+      (k, rw ew (omega (arith, guard-regions-length m n hm)), rw es (small n .1), hl)
 
   rows : mapOf (rights w (shape .regions)) (shape .window) ≡ rowsOf (stateOf m) n
   unfolding rowsOf rightsOf
@@ -33,8 +34,8 @@ module _ (m : List ℕ) (n : ℕ) (l : List ℕ) (hm : length m ≡ stateWords) 
   -- what it makes
   pub made : {count : ℕ} {l′ : List ℕ} → count ≡ size (mapOf (rights w (shape .regions)) (shape .window))
       → l′ ≡ filled (mapOf (rights w (shape .regions)) (shape .window)) l
-      → (Done 0 ≡ fillAnswer m n l) × ((3 * count ≡ fillUsed m n l) × (l′ ≡ fillNumbers m n l))
+      → (Done 0 ≡ fillAnswer m n l) × ((rowNumbers * count ≡ fillUsed m n l) × (l′ ≡ fillNumbers m n l))
   unfolding fillAnswer fillUsed fillNumbers
   made ec el =
       simp (eq-eqb (length m) stateWords hm, le-leb leastRoom (length l) hl, hn)
-      (refl, (ap (λ (k : ℕ). 3 * k) (ec ∙ ap size rows), el ∙ ap (λ (rs : Rows). filled rs l) rows))
+      (refl, (ap (λ (k : ℕ). rowNumbers * k) (ec ∙ ap size rows), el ∙ ap (λ (rs : Rows). filled rs l) rows))

@@ -4,7 +4,7 @@ use mathlib.Core.List.{List, _∷_}
 use mathlib.Core.Path.{_≡_, refl, ap, _∙_}
 use Prim.Native.Nat.{ℕ, suc, _+_, _*_}
 use native.Mathlib.Omega.{arith}
-use Rattle.regions.specs.Words.{base, sub}
+use Rattle.regions.specs.Words.{base, sub, baseWords, subregionWords}
 use Rattle.spans.specs.Sweep.{nextOf, boundsOf}
 use Rattle.map.specs.Bounds.{enabled, pairAt, withPair, pairsOf, nearerPair, nearerAt, nearerRegion}
 
@@ -41,9 +41,9 @@ module _ (w : List ℕ) (at window : ℕ) where
 
 -- the code's calls, where the base region is enabled
 pub region-enabled : (w : List ℕ) (x at m : ℕ) {own a b : ℕ} → enabled w (base x) ≡ true → own ≡ nearerPair at (pairAt w (base x)) m
-    → a ≡ nearerAt w (12 * x + 4) at own → b ≡ nearerAt w (12 * x + 8) at a → b ≡ nearerRegion w x at m
+    → a ≡ nearerAt w (base x + baseWords) at own → b ≡ nearerAt w (base x + (baseWords + subregionWords)) at a → b ≡ nearerRegion w x at m
 unfolding nearerRegion
 region-enabled w x at m {own} {a} {b} e eo ea eb =
-    let p : 12 * x + 4 ≡ sub x 0 = omega arith in
-    let q : 12 * x + 8 ≡ sub x 1 = omega arith in
+    let p : base x + baseWords ≡ sub x 0 = omega arith in
+    let q : base x + (baseWords + subregionWords) ≡ sub x 1 = omega arith in
     simp e (cc)

@@ -4,7 +4,7 @@ use mathlib.Core.Logic.{_↔_}
 use mathlib.Core.Path.{_≡_, sym, ap, _∙_}
 use Prim.Native.Nat.{ℕ}
 use Rattle.words.specs.Bit.{bit}
-use Rattle.access.specs.Kind.{placeOf}
+use Rattle.access.specs.Kind.{rightsBit}
 use Rattle.risaf.specs.Guards.{isGuard, shapeOf}
 use Rattle.spans.specs.Rows.{flat}
 use Rattle.spans.proofs.Canonical.{canonical-flat}
@@ -17,6 +17,6 @@ pub sheets : (s t : State) (n : ℕ) → isGuard n ≡ true → (flat (rowsOf s 
 unfolding rowsOf SameGrants
 sheets s t n h =
     let c = canonical-flat (rightsOf s n) (rightsOf t n) (shapeOf n .window) in (
-      (λ e o k l u. sym (bit-grants s n o h l k u) ∙ ap (λ (q : ℕ). bit q (placeOf k)) (c .0 e o l) ∙ bit-grants t n o h l k u),
+      (λ e o k l u. sym (bit-grants s n o h l k u) ∙ ap (λ (q : ℕ). bit q (rightsBit k)) (c .0 e o l) ∙ bit-grants t n o h l k u),
       (λ same. c .1 (λ o l. rights-same s t n o h l (λ k u. same o k l u))),
     )

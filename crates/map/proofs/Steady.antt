@@ -9,7 +9,7 @@ use Rattle.words.proofs.Laws.{word-cong}
 use Rattle.access.specs.Kind.{kindOf}
 use Rattle.access.specs.declared.kind.Kind.{Kind}
 use Rattle.risaf.specs.Guards.{shapeOf}
-use Rattle.regions.specs.Words.{base, sub}
+use Rattle.regions.specs.Words.{base, sub, mostRegions}
 use Rattle.regions.specs.Rights.{rights}
 use Rattle.regions.specs.Rules.{covers}
 use Rattle.regions.specs.Tally.{tally, added, subAdded, judged}
@@ -21,6 +21,7 @@ use Rattle.spans.specs.Sweep.{sweptMap, boundsOf}
 use Rattle.spans.proofs.Steady.{Alike, Steady, steady-pairs, length-bounds}
 use Rattle.spans.proofs.Sweep.{swept-is-map, rows-most}
 use Rattle.device.specs.State.{State, guardOf}
+use Rattle.map.specs.Fill.{mostRows}
 use Rattle.map.specs.Bounds.{enabled, pairAt, withPair, withRegion, pairsOf}
 use Rattle.map.specs.Map.{rightsOf, rowsOf}
 use Rattle.map.proofs.Guards.{small}
@@ -70,7 +71,7 @@ steady w n = steady-pairs (rights w n) (pairsOf w n) (λ x y a. rights-alike w x
 
 -- ---- how many boundaries there are
 
-pub bounds-most : (w : List ℕ) (n : ℕ) → n ≤ 11 → length (boundsOf (pairsOf w n)) ≤ 66
+pub bounds-most : (w : List ℕ) (n : ℕ) → n ≤ mostRegions → length (boundsOf (pairsOf w n)) ≤ 66
 unfolding pairsOf
 bounds-most w n h = omega (arith, length-bounds (pairsOf w n), most n)
   where
@@ -92,7 +93,7 @@ bounds-most w n h = omega (arith, length-bounds (pairsOf w n), most n)
         omega (arith, one (enabled w (sub x 1)) (pairAt w (sub x 1)) a, one (enabled w (sub x 0)) (pairAt w (sub x 0)) b) in
         omega (arith, three (enabled w (base x)) (withPair w (sub x 1) a) ps h, most x)
 
-pub size-most : (w : List ℕ) (n window : ℕ) → n ≤ 11 → size (mapOf (rights w n) window) ≤ 67
+pub size-most : (w : List ℕ) (n window : ℕ) → n ≤ mostRegions → size (mapOf (rights w n) window) ≤ mostRows
 size-most w n window h = omega (arith, rows-most (steady w n) window, bounds-most w n h)
 
 -- ---- the map of a guard
@@ -103,6 +104,6 @@ module _ (s : State) (n : ℕ) where
   unfolding rowsOf rightsOf
   rows-swept = sym (swept-is-map (steady (guardOf s n .regions) (shapeOf n .regions)) (shapeOf n .window))
 
-  pub rows-67 : size (rowsOf s n) ≤ 67
+  pub rows-67 : size (rowsOf s n) ≤ mostRows
   unfolding rowsOf rightsOf
   rows-67 = size-most (guardOf s n .regions) (shapeOf n .regions) (shapeOf n .window) (small n .0)

@@ -12,7 +12,7 @@ use Rattle.spans.specs.Rows.{flat, size, filled}
 use Rattle.spans.proofs.Memory.{filled-front, filled-length}
 use Rattle.device.specs.Layout.{stateWords, stateOf}
 use Rattle.map.specs.Demand.{IsGuardMap}
-use Rattle.map.specs.Fill.{leastRoom, fills, fillUsed, fillNumbers}
+use Rattle.map.specs.Fill.{rowNumbers, leastRoom, fills, fillUsed, fillNumbers}
 use Rattle.map.specs.Map.{rowsOf}
 use Rattle.map.specs.Part.{usedPart}
 use Rattle.map.specs.Sheets.{SameGrants}
@@ -24,7 +24,7 @@ use Rattle.map.proofs.Steady.{rows-67}
 
 module _ (m : List ℕ) (n : ℕ) (l : List ℕ) (hm : length m ≡ stateWords) (hl : leastRoom ≤ length l) (hn : isGuard n ≡ true) where
   -- three numbers to a row
-  pub used-rows : fillUsed m n l ≡ 3 * size (rowsOf (stateOf m) n)
+  pub used-rows : fillUsed m n l ≡ rowNumbers * size (rowsOf (stateOf m) n)
   unfolding fillUsed
   used-rows = simp (eq-eqb (length m) stateWords hm, le-leb leastRoom (length l) hl, hn)
 
@@ -43,9 +43,9 @@ module _ (m : List ℕ) (n : ℕ) (l : List ℕ) (hm : length m ≡ stateWords) 
   unfolding usedPart
   used-is-map =
       let rs = rowsOf (stateOf m) n in
-      let h : 3 * size rs ≤ length l = omega (arith, rows-67 (stateOf m) n) in
-      let g : 3 * size rs ≤ length (filled rs l) = omega (arith, filled-length rs l h) in
-      rw (used-rows, numbers-filled) (simp (le-leb (3 * size rs) (length (filled rs l)) g) (filled-front rs l))
+      let h : rowNumbers * size rs ≤ length l = omega (arith, rows-67 (stateOf m) n) in
+      let g : rowNumbers * size rs ≤ length (filled rs l) = omega (arith, filled-length rs l h) in
+      rw (used-rows, numbers-filled) (simp (le-leb (rowNumbers * size rs) (length (filled rs l)) g) (filled-front rs l))
 
 -- the mission's sentence of two parts that are handed back
 pub used-sheets : (m m′ : List ℕ) (n : ℕ) (l l′ : List ℕ) → length m ≡ stateWords → length m′ ≡ stateWords

@@ -5,16 +5,16 @@ use mathlib.Core.List.{List, [], _∷_}
 use Prim.Native.Nat.{ℕ, zero, suc, _+_}
 use lib.ListN.{getD}
 use Rattle.words.specs.Bit.{bit}
-use Rattle.regions.specs.Words.{base, sub}
+use Rattle.regions.specs.Words.{base, sub, startAt, endAt, enableBit}
 use Rattle.spans.specs.Sweep.{nearer}
 
 -- the region or subregion at p is enabled; one that is not covers no offset
 abbrev pub enabled : List ℕ → ℕ → Bool
-enabled w p = bit (getD w p 0) 0
+enabled w p = bit (getD w p 0) enableBit
 
 -- START and END of the region or subregion at p
 abbrev pub pairAt : List ℕ → ℕ → ℕ × ℕ
-pairAt w p = (getD w (p + 1) 0, getD w (p + 2) 0)
+pairAt w p = (getD w (p + startAt) 0, getD w (p + endAt) 0)
 
 -- with the pair at p, where it is enabled
 abbrev pub withPair : List ℕ → ℕ → List (ℕ × ℕ) → List (ℕ × ℕ)

@@ -7,11 +7,12 @@ use Prim.Native.Nat.{ℕ, _+_, _≤_, _<_}
 use lib.Dec.{eqb}
 use Rattle.words.specs.Bit.{bit}
 use Rattle.access.specs.Answer.{numberOf}
-use Rattle.access.specs.Kind.{placeOf}
+use Rattle.access.specs.Kind.{rightsBit}
 use Rattle.access.specs.declared.kind.Kind.{Kind}
 use Rattle.risaf.specs.Guards.{shapeOf}
 use Rattle.spans.specs.Rows.{start, end, rights}
 use Rattle.spans.specs.Map.{Tiles}
+use Rattle.map.specs.Fill.{mostRows}
 use Rattle.device.specs.State.{State}
 use Rattle.device.specs.Step.{step}
 use Rattle.device.specs.declared.event.Event.the-variants.{Memory}
@@ -27,7 +28,7 @@ pub record IsGuardMap (s : State) (n count : ℕ) (m : List ℕ) : Type 0 where
   pub tiles : Tiles (shapeOf n .window) count m
   -- at every offset of a row, for each of the 64 kinds of asking, the bit is 1 exactly when the access is granted
   pub exact : (j x : ℕ) (k : Kind) → j < count → start m j ≤ x → x ≤ end m j → k .cid .0 ≤ 7
-      → bit (rights m j) (placeOf k) ≡ grantsAt s n x k
+      → bit (rights m j) (rightsBit k) ≡ grantsAt s n x k
   -- no two neighbours with equal rights
   pub differ : (j : ℕ) → j + 1 < count → rights m j ≢ rights m (j + 1)
-  pub most : count ≤ 67
+  pub most : count ≤ mostRows

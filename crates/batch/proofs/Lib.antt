@@ -1,0 +1,2 @@
+pub mod BatchTurns
+pub mod Walks

@@ -1,0 +1,5 @@
+// Memory accesses one after another.
+pub mod batches;
+
+pub use batches::Batched;
+pub use batches::batch;
