@@ -29,6 +29,8 @@ int main(void) {
     want(rif_map(state, RIF_STATE_WORDS, 2, rows, RIF_MAP_NUMBERS, &used), 0);
     for (uint64_t i = 0; i < used; i += 3)
         printf("%08" PRIx64 " to %08" PRIx64 ": %016" PRIx64 "\n", rows[i], rows[i + 1], rows[i + 2]);
-    want(rows[rif_lookup(rows, used, 0x1ffff) + 2], 0x84868486);
+    uint64_t start, end, rights;
+    want(rif_lookup(rows, used, 0x1ffff, &start, &end, &rights), 3);
+    want(rights, 0x84868486);
     return wrong;
 }

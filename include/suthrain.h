@@ -85,11 +85,10 @@ uint64_t rif_line(const uint32_t *state, size_t words);
 uint64_t rif_map(const uint32_t *state, size_t words, uint32_t guard, uint64_t *numbers, size_t count, uint64_t *used);
 
 /*
- * The first row of a map whose start and end enclose the offset: the place of its first number among the numbers, or RIF_NO_ROW.
- * Any numbers will do; one or two left over at the end are no row.
+ * The first row of a map whose start and end enclose the offset: 3, and its numbers in *start, *end and *rights; or 0, and they stay
+ * as they were. Any numbers will do; one or two left over at the end are no row.
  */
-#define RIF_NO_ROW UINT64_MAX
-uint64_t rif_lookup(const uint64_t *numbers, size_t count, uint64_t offset);
+uint64_t rif_lookup(const uint64_t *numbers, size_t count, uint64_t offset, uint64_t *start, uint64_t *end, uint64_t *rights);
 
 /* One memory access of a batch. */
 typedef struct {

@@ -51,7 +51,8 @@ extern "C" {
     fn rif_line(state: *const u32, words: usize) -> u64;
     fn rif_map(state: *const u32, words: usize, guard: u32, numbers: *mut u64, count: usize,
                used: *mut u64) -> u64;
-    fn rif_lookup(numbers: *const u64, count: usize, offset: u64) -> u64;
+    fn rif_lookup(numbers: *const u64, count: usize, offset: u64, start: *mut u64,
+                  end: *mut u64, rights: *mut u64) -> u64;
     fn rif_batch(state: *mut u32, words: usize, accesses: *const Access, count: usize,
                  answers: *mut u64, places: usize) -> u64;
 }
@@ -130,8 +131,10 @@ pub fn map(state: &[u32], guard: u32, numbers: &mut [u64], used: &mut u64) -> u6
     unsafe { rif_map(state.as_ptr(), state.len(), guard, first, count, used) }
 }
 
-pub fn lookup(numbers: &[u64], offset: u64) -> u64 {
-    unsafe { rif_lookup(numbers.as_ptr(), numbers.len(), offset) }
+pub fn lookup(numbers: &[u64], offset: u64, row: &mut [u64; 3]) -> u64 {
+    let (first, count) = (numbers.as_ptr(), numbers.len());
+    let [start, end, rights] = row;
+    unsafe { rif_lookup(first, count, offset, start, end, rights) }
 }
 
 pub fn batch(state: &mut [u32], accesses: &[Access], answers: &mut [u64]) -> u64 {

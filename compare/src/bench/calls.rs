@@ -147,8 +147,9 @@ fn lookups(name: &'static str, words: &[u32]) -> Item {
     let offsets: Vec<u64> = (0..SINGLE).map(offset).collect();
     let (same_numbers, same_offsets) = (numbers.clone(), offsets.clone());
     let proved = move || {
+        let mut row = [0; 3];
         for &offset in &offsets {
-            black_box(linked::lookup(&numbers, offset));
+            black_box(linked::lookup(&numbers, offset, &mut row));
         }
     };
     let second = move || {

@@ -54,9 +54,6 @@ impl Outcome {
     }
 }
 
-/// What a lookup gives when no row encloses the offset.
-pub const NO_ROW: u64 = u64::MAX;
-
 /// An answer as the C interface gives it: 2^32 * number + value.
 pub fn packed(answer: Answer) -> u64 {
     u64::from(answer.number()) << 32 | u64::from(answer.value())

@@ -1,6 +1,6 @@
 //! The machine that goes by the model.
 
-use super::call::{packed, Call, Outcome, NO_ROW};
+use super::call::{packed, Call, Outcome};
 use super::machine::Machine;
 use super::words::{device_of, store, STATE_WORDS};
 use crate::model::{lookup, Answer, Device, Event, MemoryAccess, Span};
@@ -89,12 +89,10 @@ impl Modelled {
 
     fn lookup(&self, numbers: &[u64], offset: u64) -> Outcome {
         let row = (self.rules.lookup)(numbers, offset);
-        if row.is_empty() {
-            return Outcome::of(NO_ROW);
+        Outcome {
+            lent: row.to_vec(),
+            ..Outcome::of(row.len() as u64)
         }
-        // The row is a part of the numbers, so its address tells its place.
-        let bytes = row.as_ptr() as usize - numbers.as_ptr() as usize;
-        Outcome::of((bytes / size_of::<u64>()) as u64)
     }
 
     fn batch(&mut self, accesses: &[MemoryAccess], lent: &[u64]) -> Outcome {

@@ -1,6 +1,6 @@
 //! How often each kind of call got each answer, and which must be met.
 
-use super::call::{Call, Outcome, NO_ROW};
+use super::call::{Call, Outcome};
 use crate::model::{Block, Direction, Event, RegisterAccess};
 use std::fmt::Write;
 
@@ -83,7 +83,7 @@ impl Tally {
     pub fn count(&mut self, call: &Call, outcome: &Outcome) {
         let kind = kind_of(call);
         match call {
-            Call::Lookup { .. } => self.add(kind, u64::from(outcome.answer == NO_ROW)),
+            Call::Lookup { .. } => self.add(kind, u64::from(outcome.lent.is_empty())),
             _ => self.add(kind, outcome.answer),
         }
         if let Call::Batch { accesses, .. } = call {

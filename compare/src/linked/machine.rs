@@ -105,12 +105,16 @@ impl Linked {
     }
 }
 
-/// A lookup, which may change nothing.
+/// A lookup, which may change only the row, and that only where there is one.
 fn look(numbers: &[u64], offset: u64) -> Outcome {
     let lent = Fenced::new(numbers);
-    let answer = lookup(lent.inside(), offset);
+    let mut row = [u64::from(POST); 3];
+    let answer = lookup(lent.inside(), offset, &mut row);
+    let (found, rest) = row.split_at(row.len().min(answer as usize));
+    let kept = rest.iter().all(|&number| number == u64::from(POST));
     Outcome {
-        stray: lent.broken() || lent.inside() != numbers,
+        stray: lent.broken() || lent.inside() != numbers || !kept,
+        lent: found.to_vec(),
         ..Outcome::of(answer)
     }
 }

@@ -3,7 +3,8 @@ use mathlib.Core.Bool.{Bool, cond}
 use mathlib.Core.List.{List}
 use Prim.Native.Nat.{ℕ}
 use Rattle.access.specs.Answer.{encodedOf}
-use Rattle.access.specs.declared.answer.Answer.the-variants.{NoSuch, WrongLength}
+use Rattle.access.specs.declared.answer.Answer.the-variants.{Rejected}
+use Rattle.access.specs.declared.answer.Why.the-variants.{NoSuch, WrongLength}
 use Rattle.device.specs.Applied.{sized, appliedAnswer, appliedState}
 use Rattle.device.specs.declared.event.Event.{Event}
 use Rattle.device.specs.declared.event.Event.the-variants.{Register, Peripheral, Memory, Master}
@@ -45,7 +46,7 @@ peripheralAsked peripheral operation secure privileged = to (operationOf operati
 -- its answer, as C has it: 4 to nothing, but 8 comes first
 unfoldable pub askedAnswer : Asked → List ℕ → ℕ
 askedAnswer (event e) m = encodedOf (appliedAnswer e m)
-askedAnswer nothing m = encodedOf (cond (sized m) NoSuch WrongLength)
+askedAnswer nothing m = encodedOf (Rejected (cond (sized m) NoSuch WrongLength))
 
 unfoldable pub askedState : Asked → List ℕ → List ℕ
 askedState (event e) m = appliedState e m

@@ -6,6 +6,7 @@ use access::Answer;
 use access::Cid;
 use access::Kind;
 use access::Request;
+use access::Why;
 use device::MasterAccess;
 use device::MemoryAccess;
 use device::PeripheralAccess;
@@ -32,9 +33,9 @@ fn nothing(state: &[u32]) -> u64
     ensures { λ r. ⌜ r ≡ askedAnswer nothing (now (state .entry)) ⌝ }
 {
     if state.len() == device::STATE_WORDS {
-        Answer::NoSuch.encoded()
+        Answer::Rejected(Why::NoSuch).encoded()
     } else {
-        Answer::WrongLength.encoded()
+        Answer::Rejected(Why::WrongLength).encoded()
     }
 }
 

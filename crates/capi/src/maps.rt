@@ -1,11 +1,10 @@
+use map::fill::ROW_NUMBERS;
 use risaf::GuardNumber;
 ghost use mathlib.Core.Path.{_≡_};
+ghost use lib.ListN.{getD, length};
 ghost use Rattle.access.specs.Answer.{encodedOf};
 ghost use Rattle.map.specs.Fill.{fillAnswer, fillNumbers, fillUsed};
-ghost use Rattle.capi.specs.Maps.{placeOrNone};
-
-// RIF_NO_ROW in C. No row begins so far on.
-const NO_ROW: u64 = u64::MAX;
+ghost use Rattle.spans.specs.Lookup.{lookupIn};
 
 #[no_mangle]
 pub extern "C" fn rif_map(state: &[u32], guard: u32, numbers: &mut [u64], used: &mut u64) -> u64
@@ -19,14 +18,25 @@ pub extern "C" fn rif_map(state: &[u32], guard: u32, numbers: &mut [u64], used: 
     answer.encoded()
 }
 
+// The row that encloses an offset, where there is one: the three numbers, and their count given back.
 #[no_mangle]
-pub extern "C" fn rif_lookup(numbers: &[u64], offset: u64) -> u64
-    ensures { λ r. ⌜ r ≡ placeOrNone (now (numbers .entry)) offset ⌝ }
+pub extern "C" fn rif_lookup(
+    numbers: &[u64],
+    offset: u64,
+    start: &mut u64,
+    end: &mut u64,
+    rights: &mut u64,
+) -> u64
+    ensures count { λ r. ⌜ r ≡ length (lookupIn (now (numbers .entry)) offset) ⌝ }
+    ensures start { λ _. ⌜ now (start .exit) ≡ getD (lookupIn (now (numbers .entry)) offset) 0 (now (start .entry)) ⌝ }
+    ensures end { λ _. ⌜ now (end .exit) ≡ getD (lookupIn (now (numbers .entry)) offset) 1 (now (end .entry)) ⌝ }
+    ensures rights { λ _. ⌜ now (rights .exit) ≡ getD (lookupIn (now (numbers .entry)) offset) 2 (now (rights .entry)) ⌝ }
 {
-    let place = spans::row_place(numbers, offset);
-    if place < numbers.len() {
-        place as u64
-    } else {
-        NO_ROW
+    let row = map::lookup(numbers, offset);
+    if row.len() == ROW_NUMBERS {
+        *start = row[0];
+        *end = row[1];
+        *rights = row[2];
     }
+    row.len() as u64
 }

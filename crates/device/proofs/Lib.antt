@@ -1,6 +1,9 @@
 pub mod Applies
 pub mod BlockSteps
 pub mod GuardSteps
+pub mod LockWrites
+pub mod Locks
 pub mod Parts
 pub mod PeripheralSteps
+pub mod Refusals
 pub mod StateLayout

@@ -2,10 +2,12 @@
 --     State      meaning: the state, and reset
 --     Step       meaning: what an event answers and leaves; demand 2
 --     Run        meaning: events one after the other
+--     Locks      meaning: the locks there are, and the settings
 --     Applied    meaning: an event on lent memory
 --     Layout     meaning: the state's memory, part by part
 pub mod Applied
 pub mod Layout
+pub mod Locks
 pub mod Run
 pub mod State
 pub mod Step

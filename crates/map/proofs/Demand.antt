@@ -14,7 +14,7 @@ use Rattle.device.specs.State.{State}
 use Rattle.map.specs.Demand.{IsGuardMap}
 use Rattle.map.specs.Map.{rightsOf, rowsOf}
 use Rattle.map.proofs.Grants.{bit-grants}
-use Rattle.map.proofs.Steady.{rows-67}
+use Rattle.map.proofs.Steady.{guard-rows-most}
 
 -- no row ends past the window
 module _ {w n : ℕ} {m : List ℕ} (t : Tiles w n m) where
@@ -43,5 +43,5 @@ demand-3 s n l h =
           λ j x k hj low high c.
           ap (λ (q : ℕ). bit q (rightsBit k)) (i .exact j x hj low high) ∙ bit-grants s n x h (omega (arith, end-below (i .tiles) j hj)) k c;
       differ = i .differ;
-      most = rows-67 s n;
+      most = guard-rows-most s n;
     }

@@ -104,6 +104,6 @@ module _ (s : State) (n : ℕ) where
   unfolding rowsOf rightsOf
   rows-swept = sym (swept-is-map (steady (guardOf s n .regions) (shapeOf n .regions)) (shapeOf n .window))
 
-  pub rows-67 : size (rowsOf s n) ≤ mostRows
+  pub guard-rows-most : size (rowsOf s n) ≤ mostRows
   unfolding rowsOf rightsOf
-  rows-67 = size-most (guardOf s n .regions) (shapeOf n .regions) (shapeOf n .window) (small n .0)
+  guard-rows-most = size-most (guardOf s n .regions) (shapeOf n .regions) (shapeOf n .window) (small n .0)

@@ -18,7 +18,7 @@ use Rattle.map.specs.Part.{usedPart}
 use Rattle.map.specs.Sheets.{SameGrants}
 use Rattle.map.proofs.Demand.{demand-3}
 use Rattle.map.proofs.Sheets.{sheets}
-use Rattle.map.proofs.Steady.{rows-67}
+use Rattle.map.proofs.Steady.{guard-rows-most}
 
 -- ---- a map is made
 
@@ -43,7 +43,7 @@ module _ (m : List ℕ) (n : ℕ) (l : List ℕ) (hm : length m ≡ stateWords) 
   unfolding usedPart
   used-is-map =
       let rs = rowsOf (stateOf m) n in
-      let h : rowNumbers * size rs ≤ length l = omega (arith, rows-67 (stateOf m) n) in
+      let h : rowNumbers * size rs ≤ length l = omega (arith, guard-rows-most (stateOf m) n) in
       let g : rowNumbers * size rs ≤ length (filled rs l) = omega (arith, filled-length rs l h) in
       rw (used-rows, numbers-filled) (simp (le-leb (rowNumbers * size rs) (length (filled rs l)) g) (filled-front rs l))
 

@@ -15,7 +15,7 @@ use Rattle.print.specs.Parts.{Wrote}
 use Rattle.print.specs.Print.{badLine}
 use Rattle.script.specs.declared.command.Command.{Command}
 use Rattle.script.specs.declared.command.Command.the-variants.{Event as AnEvent, Map, Bad}
-use Rattle.response.specs.Response.{answerText, bytesAfter, mapText, most, nextOf, placeAfter, stateAfter, textOf}
+use Rattle.response.specs.Response.{answerText, bytesAfter, mapText, most, leftBy, placeAfter, stateAfter, textOf}
 
 -- a line that is neither a map request nor an event is bad: the variants' numbers are 0, 1, 2
 neither : (c : Command) → OneOf (0 ∷ 2 ∷ []) (tagOf the-type c) → OneOf (1 ∷ 2 ∷ []) (tagOf the-type c) → c ≡ Bad
@@ -25,18 +25,18 @@ neither Bad h k = refl
 
 module _ {out out′ : List ℕ} {at p : ℕ} (m : List ℕ) (number : ℕ) {r : Command} (line : Command) (read : r ≡ line) where
   pub event-line : {m′ : List ℕ} (e : Event) → r ≡ AnEvent e → Wrote out at (answerText (appliedAnswer e m)) out′ p
-      → m′ ≡ appliedState e m → Wrote out at (textOf line number m) out′ p × (m′ ≡ nextOf line m)
-  unfolding textOf nextOf
+      → m′ ≡ appliedState e m → Wrote out at (textOf line number m) out′ p × (m′ ≡ leftBy line m)
+  unfolding textOf leftBy
   event-line e k w s = rw (sym read ∙ k) (w, s)
 
   pub map-line : (n : GuardNumber) → r ≡ Map n → Wrote out at (mapText m (n .0)) out′ p
-      → Wrote out at (textOf line number m) out′ p × (m ≡ nextOf line m)
-  unfolding textOf nextOf
+      → Wrote out at (textOf line number m) out′ p × (m ≡ leftBy line m)
+  unfolding textOf leftBy
   map-line n k w = rw (sym read ∙ k) (w, refl)
 
   pub bad-line : OneOf (0 ∷ 2 ∷ []) (tagOf the-type r) → OneOf (1 ∷ 2 ∷ []) (tagOf the-type r) → Wrote out at (badLine number) out′ p
-      → Wrote out at (textOf line number m) out′ p × (m ≡ nextOf line m)
-  unfolding textOf nextOf
+      → Wrote out at (textOf line number m) out′ p × (m ≡ leftBy line m)
+  unfolding textOf leftBy
   bad-line h k w = rw (sym read ∙ neither r h k) (w, refl)
 
 -- ---- a line, with and without room
@@ -48,7 +48,7 @@ module _ (line : List ℕ) (number : ℕ) (m out : List ℕ) (at : ℕ) where
   no-room h = let t = lt-leb (at + most) (length out) h in (rw t, (rw t, rw t))
 
   pub with-room : {out′ m′ : List ℕ} {p : ℕ} → at + most ≤ length out → Wrote out at (textOf (commandOf line) number m) out′ p
-      → m′ ≡ nextOf (commandOf line) m
+      → m′ ≡ leftBy (commandOf line) m
       → (p ≡ placeAfter line number m out at) × ((out′ ≡ bytesAfter line number m out at) × (m′ ≡ stateAfter line m out at))
   unfolding placeAfter bytesAfter stateAfter
   with-room h w s = let t = le-leb (at + most) (length out) h in (rw t (w .next), (rw t (w .bytes), rw t s))

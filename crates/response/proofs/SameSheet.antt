@@ -19,11 +19,12 @@ use Rattle.spans.specs.Rows.{Rows, none, more, size, flat}
 use Rattle.spans.proofs.Memory.{flat-same}
 use Rattle.device.specs.Layout.{stateOf, stateWords}
 use Rattle.device.specs.State.{State, guardOf}
+use Rattle.map.specs.Fill.{mostRows}
 use Rattle.map.specs.Map.{rightsOf, rowsOf}
 use Rattle.map.specs.Sheets.{SameGrants}
 use Rattle.map.proofs.Guards.{small}
 use Rattle.map.proofs.Sheets.{sheets}
-use Rattle.map.proofs.Steady.{rows-67}
+use Rattle.map.proofs.Steady.{guard-rows-most}
 use Rattle.print.specs.Bytes.{bytes}
 use Rattle.print.specs.Print.{guardLine, endLine, spanLine}
 use Rattle.print.proofs.Digits.{label-length, span-length, width-bound}
@@ -73,10 +74,10 @@ spans-same (more rs s e q) (more rs′ s′ e′ q′) h h′ n l =
     let row = span-same s s′ e e′ q q′ (h .1) (h′ .1) (h .2) (h′ .2) (h .3) (h′ .3) (p .1) in
     rw (spans-same rs rs′ (h .0) (h′ .0) m (p .0), row .0, row .1, row .2)
 
-end-most : (k : ℕ) → k ≤ 67 → length (endLine k) ≤ 7
+end-most : (k : ℕ) → k ≤ mostRows → length (endLine k) ≤ 7
 end-most k h = omega (arith, label-length (bytes "end\t") k, width-bound 1 k (omega arith))
 
-sheet-same : (n : ℕ) (rs rs′ : Rows) → Small rs → Small rs′ → size rs ≤ 67 → size rs′ ≤ 67 → sheet n rs ≡ sheet n rs′ → rs ≡ rs′
+sheet-same : (n : ℕ) (rs rs′ : Rows) → Small rs → Small rs′ → size rs ≤ mostRows → size rs′ ≤ mostRows → sheet n rs ≡ sheet n rs′ → rs ≡ rs′
 unfolding sheet
 sheet-same n rs rs′ h h′ few few′ e =
     let k : length (guardLine n ++ spanLines rs) ≡ length (guardLine n) + 40 * size rs =
@@ -102,7 +103,7 @@ sheet-same n rs rs′ h h′ few few′ e =
 pub same-sheet : (s t : State) (n : ℕ) → isGuard n ≡ true → (sheet n (rowsOf s n) ≡ sheet n (rowsOf t n)) ↔ SameGrants s t n
 same-sheet s t n h =
     let c = sheets s t n h in (
-      (λ e. c .0 (ap flat (sheet-same n _ _ (small-rows s n) (small-rows t n) (rows-67 s n) (rows-67 t n) e))),
+      (λ e. c .0 (ap flat (sheet-same n _ _ (small-rows s n) (small-rows t n) (guard-rows-most s n) (guard-rows-most t n) e))),
       (λ same. ap (sheet n) (flat-same _ _ (c .1 same))),
     )
 

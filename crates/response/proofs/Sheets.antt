@@ -1,23 +1,26 @@
 -- A sheet's lines one after the other, and which of a map's two texts it is.
 use mathlib.Core.Bool.{Bool, true, false, _&&_, cond}
-use mathlib.Core.List.{List, _++_}
+use mathlib.Core.List.{List, [], _++_, append-nil}
 use mathlib.Core.Path.{_≡_, refl, sym, ap, _∙_}
 use Prim.Native.Nat.{ℕ, _+_, _*_, _/_, _^_, _≤_, _<_}
 use native.Mathlib.Omega.{arith}
-use borrow.Author.Tests.{le-leb}
+use borrow.Author.Tests.{eqb-true, le-leb}
 use lib.Dec.{leb}
-use Rattle.access.specs.declared.answer.Answer.the-variants.{Done, NoSuch, WrongLength}
-use lib.ListN.{length, drop}
+use Rattle.access.specs.declared.answer.Answer.the-variants.{Done, Rejected}
+use Rattle.access.specs.declared.answer.Why.the-variants.{NoSuch, WrongLength}
+use lib.ListN.{length}
 use Rattle.access.specs.Answer.{numberOf}
 use Rattle.access.specs.declared.answer.Answer.{Answer}
 use Rattle.risaf.specs.Guards.{isGuard}
-use Rattle.spans.specs.Rows.{size, filled, rowsIn}
-use Rattle.spans.proofs.Memory.{size-rows, rows-flat}
+use Rattle.spans.specs.Rows.{flat, size, rowsIn}
+use Rattle.spans.proofs.Memory.{length-flat, size-rows, rows-flat}
 use Rattle.device.specs.Applied.{sized}
-use Rattle.device.specs.Layout.{stateOf}
-use Rattle.map.specs.Fill.{fillAnswer, fillUsed, fillNumbers, leastRoom}
+use Rattle.device.specs.Layout.{stateOf, stateWords}
+use Rattle.map.specs.Fill.{fillAnswer, fillUsed, fillNumbers, leastRoom, mostRows, rowNumbers}
 use Rattle.map.specs.Map.{rowsOf}
-use Rattle.map.proofs.Steady.{rows-67}
+use Rattle.map.specs.Part.{usedPart}
+use Rattle.map.proofs.Used.{used-is-map}
+use Rattle.map.proofs.Steady.{guard-rows-most}
 use Rattle.print.specs.Bytes.{bytes}
 use Rattle.print.specs.Parts.{Wrote}
 use Rattle.print.specs.Print.{guardLine, endLine}
@@ -34,7 +37,7 @@ guard-line n few room place text = labelled (bytes "guard\t") n (omega arith) (o
 pub guard-most : (n : ℕ) → n < 2 ^ 32 → length (guardLine n) ≤ 27
 guard-most n few = label-most (bytes "guard\t") n (omega arith)
 
-pub end-line : {out out′ : List ℕ} {at p : ℕ} (n : ℕ) → n ≤ 67 → at + 25 ≤ length out → p ≡ placeWith out at (endLine n)
+pub end-line : {out out′ : List ℕ} {at p : ℕ} (n : ℕ) → n ≤ mostRows → at + 25 ≤ length out → p ≡ placeWith out at (endLine n)
     → out′ ≡ bytesWith out at (endLine n) → Wrote out at (endLine n) out′ p
 end-line n few room place text = labelled (bytes "end\t") n (omega arith) (omega arith) place text
 
@@ -46,7 +49,7 @@ sheet-lines n k map a b c = rw (size-rows k map) (join (join a b) c)
 
 -- ---- a map's text by the answer of filling
 
-module _ (m l : List ℕ) (n : ℕ) (long : length l ≡ 201) where
+module _ (m l : List ℕ) (n : ℕ) (long : length l ≡ leastRoom) where
   enough : leb leastRoom (length l) ≡ true
   enough = le-leb leastRoom (length l) (omega (arith, long))
 
@@ -54,9 +57,9 @@ module _ (m l : List ℕ) (n : ℕ) (long : length l ≡ 201) where
   unfolding fillAnswer mapText
   refused-text = rw enough (go (sized m) (isGuard n))
     where
-      go : (s g : Bool) → (numberOf (cond (s && true) (cond g (Done 0) NoSuch) WrongLength) ≡ 0 → ⊥)
-          → answerText (cond (s && true) (cond g (Done 0) NoSuch) WrongLength)
-          ≡ cond s (cond g (sheet n (rowsOf (stateOf m) n)) (answerText NoSuch)) (answerText WrongLength)
+      go : (s g : Bool) → (numberOf (cond (s && true) (cond g (Done 0) (Rejected NoSuch)) (Rejected WrongLength)) ≡ 0 → ⊥)
+          → answerText (cond (s && true) (cond g (Done 0) (Rejected NoSuch)) (Rejected WrongLength))
+          ≡ cond s (cond g (sheet n (rowsOf (stateOf m) n)) (answerText (Rejected NoSuch))) (answerText (Rejected WrongLength))
       go true true h = absurd (h refl)
       go true false h = refl
       go false g h = refl
@@ -66,46 +69,45 @@ module _ (m l : List ℕ) (n : ℕ) (long : length l ≡ 201) where
     unfolding fillAnswer
     whole = go (sized m) (isGuard n) refl refl (simp enough at done)
       where
-        go : (s g : Bool) → sized m ≡ s → isGuard n ≡ g → numberOf (cond (s && true) (cond g (Done 0) NoSuch) WrongLength) ≡ 0
+        go : (s g : Bool) → sized m ≡ s → isGuard n ≡ g
+            → numberOf (cond (s && true) (cond g (Done 0) (Rejected NoSuch)) (Rejected WrongLength)) ≡ 0
             → (sized m ≡ true) × (isGuard n ≡ true)
         go true true p q h = (p, q)
         go true false p q h = absurd (omega (arith, h))
         go false g p q h = absurd (omega (arith, h))
 
-    used-all : fillUsed m n l ≡ 3 * size (rowsOf (stateOf m) n)
-    unfolding fillUsed
-    used-all = rw (whole .0, enough, whole .1)
+    -- the part that is printed is the map
+    part-is-map : usedPart (fillNumbers m n l) (fillUsed m n l) ≡ flat (rowsOf (stateOf m) n)
+    part-is-map = used-is-map m n l (eqb-true (length m) stateWords (whole .0)) (omega (arith, long)) (whole .1)
 
-    numbers-all : fillNumbers m n l ≡ filled (rowsOf (stateOf m) n) l
-    unfolding fillNumbers
-    numbers-all = rw (whole .0, enough, whole .1)
+    part-length : length (usedPart (fillNumbers m n l) (fillUsed m n l)) ≡ rowNumbers * size (rowsOf (stateOf m) n)
+    part-length = rw part-is-map (length-flat (rowsOf (stateOf m) n))
 
-    rows-few : {used : ℕ} (l′ : List ℕ) → used ≡ fillUsed m n l → length l′ ≡ length l
-        → (used / 3 ≤ 67) × (3 * (used / 3) ≤ length l′)
-    rows-few {used} l′ u e =
-        let most = rows-67 (stateOf m) n in
-        (omega (arith, u, used-all, most), omega (arith, u, used-all, most, e, long))
+    part-text : sheet n (rowsIn (length (usedPart (fillNumbers m n l) (fillUsed m n l)) / rowNumbers) (usedPart (fillNumbers m n l) (fillUsed m n l)))
+        ≡ mapText m n
+    unfolding mapText
+    part-text =
+        let rs = rowsOf (stateOf m) n in
+        let k : length (usedPart (fillNumbers m n l) (fillUsed m n l)) / rowNumbers ≡ size rs = omega (arith, part-length) in
+        rw (whole .0, whole .1, k, part-is-map, ← append-nil (flat rs), rows-flat rs [])
 
-    sheet-text : {used : ℕ} {l′ : List ℕ} → used ≡ fillUsed m n l → l′ ≡ fillNumbers m n l
-        → sheet n (rowsIn (used / 3) l′) ≡ mapText m n
-    unfolding mapText filled
-    sheet-text {used} {l′} u e =
-        let k : used / 3 ≡ size (rowsOf (stateOf m) n) = omega (arith, u, used-all) in
-        rw (whole .0, whole .1, k, e ∙ numbers-all, rows-flat (rowsOf (stateOf m) n) (drop (3 * size (rowsOf (stateOf m) n)) l))
-
--- the facts that the code has: what filling gives, and the answer's number
-module _ (m l : List ℕ) (n : ℕ) (long : length l ≡ 201) {a : Answer} {number : ℕ} (answer : a ≡ fillAnswer m n l) (its : number ≡ numberOf a) where
+-- the facts that the code has: what filling gives, the answer's number, and the used part
+module _ (m l : List ℕ) (n : ℕ) (long : length l ≡ leastRoom) {a : Answer} {number : ℕ} (answer : a ≡ fillAnswer m n l) (its : number ≡ numberOf a) where
   pub refused-map : {out out′ : List ℕ} {at p : ℕ} → (number ≡ 0 → ⊥) → Wrote out at (answerText a) out′ p → Wrote out at (mapText m n) out′ p
   refused-map not w =
       rw (← refused-text m l n long (λ z. not (its ∙ ap numberOf answer ∙ z)), ← answer) w
 
-  module _ {used : ℕ} (l′ : List ℕ) (zero : number ≡ 0) (u : used ≡ fillUsed m n l) where
+  module _ {part l′ : List ℕ} {used : ℕ} (zero : number ≡ 0) (l′-is : l′ ≡ fillNumbers m n l) (used-is : used ≡ fillUsed m n l)
+    (part-is : part ≡ usedPart l′ used) where
     is-done : numberOf (fillAnswer m n l) ≡ 0
     is-done = sym (ap numberOf answer) ∙ sym its ∙ zero
 
-    pub made-few : length l′ ≡ length l → (used / 3 ≤ 67) × (3 * (used / 3) ≤ length l′)
-    made-few = rows-few m l n long is-done l′ u
+    is-part : part ≡ usedPart (fillNumbers m n l) (fillUsed m n l)
+    is-part = part-is ∙ rw (l′-is, used-is)
 
-    pub made-map : {out out′ : List ℕ} {at p : ℕ} → l′ ≡ fillNumbers m n l → Wrote out at (sheet n (rowsIn (used / 3) l′)) out′ p
+    pub made-few : length part ≤ leastRoom
+    made-few = rw is-part (omega (arith, part-length m l n long is-done, guard-rows-most (stateOf m) n))
+
+    pub made-map : {out out′ : List ℕ} {at p : ℕ} → Wrote out at (sheet n (rowsIn (length part / rowNumbers) part)) out′ p
         → Wrote out at (mapText m n) out′ p
-    made-map e w = rw (← sheet-text m l n long is-done u e) w
+    made-map w = rw (← part-text m l n long is-done, ← is-part) w

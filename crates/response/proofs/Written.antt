@@ -9,7 +9,7 @@ use borrow.Author.Tests.{le-leb}
 use lib.ListN.{length, take, drop, length-append, take-append-drop}
 use Rattle.access.specs.Answer.{numberOf, valueOf}
 use Rattle.access.specs.declared.answer.Answer.{Answer}
-use Rattle.access.specs.declared.answer.Answer.the-variants.{Done, Refused, Locked, NoRegister, NoSuch, Misaligned, Outside, Fetch, WrongLength}
+use Rattle.access.proofs.Answers.{number-most}
 use Rattle.spans.specs.Rows.{Rows, none, more, size, start, end, rights, rowsIn}
 use Rattle.spans.proofs.Memory.{size-rows}
 use Rattle.print.specs.Parts.{Wrote}
@@ -29,21 +29,9 @@ roomy {out} {out′} {line} {at} {p} h place bytes =
     let next : p ≡ at + length line = place ∙ rw t in
     record { next = next; room = rw next h; bytes = bytes ∙ rw t }
 
--- an answer's number has one digit
-number-few : (a : Answer) → numberOf a < 10
-number-few (Done v) = omega arith
-number-few Refused = omega arith
-number-few Locked = omega arith
-number-few NoRegister = omega arith
-number-few NoSuch = omega arith
-number-few Misaligned = omega arith
-number-few Outside = omega arith
-number-few Fetch = omega arith
-number-few WrongLength = omega arith
-
 answer-most : (a : Answer) → length (answerLine (numberOf a) (valueOf a)) ≤ 15
 answer-most a =
-    omega (arith, answer-length (numberOf a) (valueOf a), width-bound 0 (numberOf a) (number-few a))
+    omega (arith, answer-length (numberOf a) (valueOf a), width-bound 0 (numberOf a) (omega (arith, number-most a)))
 
 pub answered : {out out′ : List ℕ} {at p n v : ℕ} (a : Answer) → at + most ≤ length out → n ≡ numberOf a → v ≡ valueOf a
     → p ≡ placeWith out at (answerLine n v) → out′ ≡ bytesWith out at (answerLine n v) → Wrote out at (answerText a) out′ p

@@ -7,7 +7,8 @@ use lib.Dec.{leb}
 use lib.ListN.{length}
 use Rattle.access.specs.Answer.{numberOf, valueOf}
 use Rattle.access.specs.declared.answer.Answer.{Answer}
-use Rattle.access.specs.declared.answer.Answer.the-variants.{NoSuch, WrongLength}
+use Rattle.access.specs.declared.answer.Answer.the-variants.{Rejected}
+use Rattle.access.specs.declared.answer.Why.the-variants.{NoSuch, WrongLength}
 use Rattle.risaf.specs.Guards.{isGuard}
 use Rattle.device.specs.Applied.{sized, appliedAnswer, appliedState}
 use Rattle.device.specs.Layout.{stateOf}
@@ -24,7 +25,7 @@ answerText a = answerLine (numberOf a) (valueOf a)
 
 -- the map of guard n of the state in the words m
 unfoldable pub mapText : List ℕ → ℕ → List ℕ
-mapText m n = cond (sized m) (cond (isGuard n) (sheet n (rowsOf (stateOf m) n)) (answerText NoSuch)) (answerText WrongLength)
+mapText m n = cond (sized m) (cond (isGuard n) (sheet n (rowsOf (stateOf m) n)) (answerText (Rejected NoSuch))) (answerText (Rejected WrongLength))
 
 -- ---- a command on the words m
 
@@ -35,10 +36,10 @@ textOf (Map n) number m = mapText m (n .0)
 textOf Bad number m = badLine number
 
 -- what it leaves
-unfoldable pub nextOf : Command → List ℕ → List ℕ
-nextOf (Event e) m = appliedState e m
-nextOf (Map n) m = m
-nextOf Bad m = m
+unfoldable pub leftBy : Command → List ℕ → List ℕ
+leftBy (Event e) m = appliedState e m
+leftBy (Map n) m = m
+leftBy Bad m = m
 
 -- ---- a line, printed at a place of a buffer; without room for the longest text nothing is done
 
@@ -56,4 +57,4 @@ unfoldable pub bytesAfter : List ℕ → ℕ → List ℕ → List ℕ → ℕ �
 bytesAfter line number m out at = cond (room out at) (over out at (textOf (commandOf line) number m)) out
 
 unfoldable pub stateAfter : List ℕ → List ℕ → List ℕ → ℕ → List ℕ
-stateAfter line m out at = cond (room out at) (nextOf (commandOf line) m) m
+stateAfter line m out at = cond (room out at) (leftBy (commandOf line) m) m

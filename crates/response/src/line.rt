@@ -11,9 +11,9 @@ ghost use Rattle.device.specs.Applied.{appliedAnswer, appliedState};
 ghost use Rattle.script.specs.Command.{commandOf};
 ghost use Rattle.print.specs.Parts.{Wrote};
 ghost use Rattle.print.specs.Print.{badLine};
-ghost use Rattle.response.specs.Response.{answerText, bytesAfter, most, nextOf, placeAfter, stateAfter, textOf};
+ghost use Rattle.response.specs.Response.{answerText, bytesAfter, most, leftBy, placeAfter, stateAfter, textOf};
 
-// The most bytes that a line prints: the sheet of a map of 67 rows.
+// The most bytes that a line prints: the sheet of a map of the most rows.
 pub const RESPONSE_MOST: usize = 2800;
 
 // An event, applied and its answer printed.
@@ -38,7 +38,7 @@ fn put_bad(out: &mut [u8], at: usize, number: u64) -> usize
 fn obey(line: &[u8], number: u64, state: &mut [u32], out: &mut [u8], at: usize) -> usize
     requires { ⌜ at + most ≤ length (now out) ⌝ }
     ensures { λ r. ⌜ Wrote (now (out .entry)) at (textOf (commandOf (now (line .entry))) number (now (state .entry))) (now (out .exit)) r ⌝ }
-    ensures { λ _. ⌜ now (state .exit) ≡ nextOf (commandOf (now (line .entry))) (now (state .entry)) ⌝ }
+    ensures { λ _. ⌜ now (state .exit) ≡ leftBy (commandOf (now (line .entry))) (now (state .entry)) ⌝ }
 {
     let command = read_line(line);
     if let Command::Map(guard) = command {

@@ -31,6 +31,21 @@ module _ (s e x : ℕ) where
       never true = refl
       never false = refl
 
+-- ---- in any numbers
+
+-- what is found is three numbers, or none
+pub found-or-none : (l : List ℕ) (x : ℕ) → (length (lookupIn l x) ≡ 3) ⊎ (lookupIn l x ≡ [])
+unfolding lookupIn
+found-or-none [] x = inr refl
+found-or-none (s ∷ []) x = inr refl
+found-or-none (s ∷ e ∷ []) x = inr refl
+found-or-none (s ∷ e ∷ q ∷ rest) x = go (encloses s e x) (found-or-none rest x)
+  where
+    go : (b : Bool) → (length (lookupIn rest x) ≡ 3) ⊎ (lookupIn rest x ≡ [])
+        → (length (cond b (s ∷ e ∷ q ∷ []) (lookupIn rest x)) ≡ 3) ⊎ (cond b (s ∷ e ∷ q ∷ []) (lookupIn rest x) ≡ [])
+    go true h = inl refl
+    go false h = h
+
 -- ---- in rows that are a map, with any numbers behind them
 
 -- an offset at or past the window is in none of the rows

@@ -7,22 +7,23 @@ use lib.Dec.{eqb}
 use borrow.Author.Tests.{eqb-true}
 use Rattle.access.specs.Answer.{numberOf, valueOf}
 use Rattle.words.specs.Bit.{masked, merged, united, withBit}
-use Rattle.access.specs.Checks.{answered}
-use Rattle.rifsc.specs.Registers.{registerAt as rifsc-registerAt, ppsr, named as rifsc-named, fixed}
+use Rattle.access.specs.Checks.{answered, reached}
+use Rattle.rifsc.specs.Registers.{registerAt as rifsc-registerAt, ppsr, rowOf as rifsc-rowOf}
 use Rattle.rifsc.specs.Contents.{stored as rifsc-stored, withStored as rifsc-withStored, seen as rifsc-seen, reset as rifsc-reset}
-use Rattle.rifsc.specs.Port.{readOf as rifsc-readOf, lockedOf as rifsc-lockedOf, raised, secWritten, privWritten, attrWritten, rimcWritten, wordWritten as rifsc-wordWritten, checksOf as rifsc-checksOf, answerOf as rifsc-answerOf, written as rifsc-written, stepped as rifsc-stepped}
-use Rattle.iac.specs.Registers.{registerAt as iac-registerAt, iisr, named as iac-named}
+use Rattle.rifsc.specs.Port.{readOf as rifsc-readOf, takes, wordWritten as rifsc-wordWritten, checksOf as rifsc-checksOf, answerOf as rifsc-answerOf, written as rifsc-written, stepped as rifsc-stepped}
+use Rattle.iac.specs.Registers.{registerAt as iac-registerAt, iisr, rowOf as iac-rowOf}
 use Rattle.iac.specs.Contents.{stored as iac-stored, reset as iac-reset}
 use Rattle.iac.specs.Port.{readOf as iac-readOf, checksOf as iac-checksOf, answerOf as iac-answerOf, written as iac-written, stepped as iac-stepped}
-use Rattle.iac.specs.Flags.{isFlag, raise}
-use Rattle.risaf.specs.Guards.{isGuard, shapeOf}
-use Rattle.risaf.specs.Registers.{registerAt}
-use Rattle.risaf.specs.Contents.{stored, withStored, seen, reset}
-use Rattle.risaf.specs.Port.{readOf, allowedOf, lockedOf, subcfgrWritten, wordWritten, checksOf, answerOf, written, stepped}
+use Rattle.iac.specs.Flags.{raise}
+use Rattle.risaf.specs.Guards.{shapeIn, shapeOf}
+use Rattle.risaf.specs.Registers.{blockOf, subRegister, regionRegister, registerAt}
+use Rattle.risaf.specs.Rows.{ofHead, ofBase, ofSub, rowOf}
+use Rattle.risaf.specs.Contents.{withWord, reset}
+use Rattle.risaf.specs.Port.{portIn, readOf, delegated, allowedOf, subcfgrWritten, wordIn, checksOf, answerOf, accessed, stepped}
 use Rattle.regions.specs.Rules.{decided}
 use Rattle.regions.specs.Rights.{rights}
-use Rattle.risaf.specs.Memory.{checksOf as memory-checksOf, answerOf as memory-answerOf, faulted, accessed}
-use Rattle.device.specs.State.{State, place, guardOf, withGuard, resetState}
+use Rattle.risaf.specs.Memory.{memoryChecks, memoryAnswer, recordedFault, faulted, memoryStepped}
+use Rattle.device.specs.State.{State, guardOf, withGuard, resetState}
 use Rattle.device.specs.Step.{registerStep, memoryStep, step}
 use Rattle.map.specs.Bounds.{pairsOf}
 use Rattle.map.specs.Map.{rightsOf}
@@ -85,7 +86,7 @@ hold (x ∷ xs) h = let p = both _ _ h in (holds x resetState (p .0), hold xs (p
 -- ---- the examples
 
 passed : pass worked ≡ true
-unfolding pass passes same swept worked flat sweptMap sweepFrom nextOf boundsOf join pairsOf rightsOf rights masked merged united withBit answered rifsc-registerAt ppsr rifsc-named fixed rifsc-stored rifsc-withStored rifsc-seen rifsc-reset rifsc-readOf rifsc-lockedOf raised secWritten privWritten attrWritten rimcWritten rifsc-wordWritten rifsc-checksOf rifsc-answerOf rifsc-written rifsc-stepped iac-registerAt iisr iac-named iac-stored iac-reset iac-readOf iac-checksOf iac-answerOf iac-written iac-stepped isFlag raise isGuard shapeOf registerAt stored withStored seen reset readOf allowedOf lockedOf subcfgrWritten wordWritten checksOf answerOf written stepped decided memory-checksOf memory-answerOf faulted accessed place guardOf withGuard resetState registerStep memoryStep step
+unfolding pass passes same swept worked flat sweptMap sweepFrom nextOf boundsOf join pairsOf rightsOf rights masked merged united withBit answered reached rifsc-registerAt ppsr rifsc-rowOf rifsc-stored rifsc-withStored rifsc-seen rifsc-reset rifsc-readOf takes rifsc-wordWritten rifsc-checksOf rifsc-answerOf rifsc-written rifsc-stepped iac-registerAt iisr iac-rowOf iac-stored iac-reset iac-readOf iac-checksOf iac-answerOf iac-written iac-stepped raise shapeIn shapeOf blockOf subRegister regionRegister registerAt ofHead ofBase ofSub rowOf withWord reset portIn readOf delegated allowedOf subcfgrWritten wordIn checksOf answerOf accessed stepped decided memoryChecks memoryAnswer recordedFault faulted memoryStepped guardOf withGuard resetState registerStep memoryStep step
 passed = refl
 
 pub all-hold : AllHold worked

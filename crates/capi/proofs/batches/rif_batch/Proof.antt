@@ -37,21 +37,21 @@ use denote.Triple.Table.{entered, cited}
 use denote.Triple.Walked.{Stays, gave-slice, stay-none-slice, onExit, walkOf, Walks, ends-at, walked, goes-gave-slice, goes-none-slice, walk-meets}
 use denote.Exit.{yes}
 use Rattle.access.specs.Answer.{encodedOf}
-use Rattle.access.specs.declared.answer.Answer.{Answer}
-use Rattle.access.proofs.answer.Answer as R
-use Rattle.access.proofs.answer.Answer.Laws as R′
-use Rattle.access.proofs.answer.Answer.encoded as encoded
-use Rattle.access.proofs.answer.Answer.encoded.Symbol as encoded-def
-use Rattle.access.proofs.answer.Answer.encoded.Symbol.{name as #encoded}
-use Rattle.access.proofs.answer.Answer.encoded.Met as encoded-thm
-use Rattle.device.specs.Batch.{batchAnswer, batchState, batchAnswers}
+use Rattle.batch.specs.Batch.{answerOf, batchAnswers, batchState, batched}
+use Rattle.batch.specs.declared.batches.Batched.{Batched}
+use Rattle.batch.proofs.batches.Batched as R
+use Rattle.batch.proofs.batches.Batched.Laws as R′
+use Rattle.batch.proofs.batches.Batched.encoded as encoded
+use Rattle.batch.proofs.batches.Batched.encoded.Symbol as encoded-def
+use Rattle.batch.proofs.batches.Batched.encoded.Symbol.{name as #encoded}
+use Rattle.batch.proofs.batches.Batched.encoded.Met as encoded-thm
 use Rattle.device.specs.declared.event.MemoryAccess.{MemoryAccess}
 use Rattle.device.proofs.event.MemoryAccess as T
-use Rattle.device.proofs.Walks.{says-each}
-use Rattle.device.proofs.batches.batch as batch
-use Rattle.device.proofs.batches.batch.Symbol as batch-def
-use Rattle.device.proofs.batches.batch.Symbol.{name as #batch}
-use Rattle.device.proofs.batches.batch.Met as batch-thm
+use Rattle.batch.proofs.Walks.{says-each}
+use Rattle.batch.proofs.batches.batch as batch
+use Rattle.batch.proofs.batches.batch.Symbol as batch-def
+use Rattle.batch.proofs.batches.batch.Symbol.{name as #batch}
+use Rattle.batch.proofs.batches.batch.Met as batch-thm
 use Rattle.capi.proofs.batches.rif_batch.Key.{name as #rif-batch}
 use Rattle.capi.proofs.batches.rif_batch as rif
 use Rattle.capi.proofs.batches.rif_batch.Statement as stated
@@ -121,7 +121,7 @@ module _ {M : Type 1} (𝓤 : URA M) (H : Heap 𝓤) (A : Atoms 𝓤) (W : Given
 
   -- from what is had at exit to the `post` of `walkOf`
   exits : (x : ℕ) (v : Val) (st′ an′ : List ℕ) → length st′ ≡ length st → length an′ ≡ length an
-      → (x ≡ encodedOf (batchAnswer st ys an)) × ((st′ ≡ batchState st ys an) × (an′ ≡ batchAnswers st ys an))
+      → (x ≡ encodedOf (answerOf (batched st ys an))) × ((st′ ≡ batchState st ys an) × (an′ ≡ batchAnswers st ys an))
       → ent 𝓤 (⋆ 𝓤 H A (Tokens ∷ ‵ (finally u32 γ₁ st′) ∷ ‵ OwnL ∷ ‵ (finally u64 γ₃ an′) ∷ ‵ (u64 .own x (v ∷ [])) ∷ [])) (Post v)
   exits x v st′ an′ e₁ e₃ said =
       qed W (Tokens ∷ ‵ (finally u32 γ₁ st′) ∷ ‵ OwnL ∷ ‵ (finally u64 γ₃ an′) ∷ ‵ (u64 .own x (v ∷ [])) ∷ []) ∵
@@ -136,10 +136,10 @@ module _ {M : Type 1} (𝓤 : URA M) (H : Heap 𝓤) (A : Atoms 𝓤) (W : Given
   goes : ent 𝓤 (onEntry 𝓤 H A batch.signature (κ₁, (κ₂, (κ₃, tt))) (q₁, (q₂, (q₃, tt))) a vals) (Batch 𝓤 H A mem run .pre to-batch)
   goes = qed W (Tokens ∷ ‵ Owns ∷ []) ∵ join ! $ nothing ! $ move ! (1 ∷ 0 ∷ []) $ done !
 
-  abbrev to-encoded : Answer → Val → Encoded 𝓤 H A mem run .Ghost
+  abbrev to-encoded : Batched → Val → Encoded 𝓤 H A mem run .Ghost
   to-encoded r w = ((tt, tt, tt, (r, tt), (w ∷ [], tt)), tt)
 
-  asks : (r : Answer) (w : Val) → Is R.the-row r (w ∷ []) → ent 𝓤 (emp 𝓤) (Encoded 𝓤 H A mem run .pre (to-encoded r w))
+  asks : (r : Batched) (w : Val) → Is R.the-row r (w ∷ []) → ent 𝓤 (emp 𝓤) (Encoded 𝓤 H A mem run .pre (to-encoded r w))
   asks r w is =
       qed W [] ∵ nothing ! $ owned ! R.the-row (Is R.the-row) (EL.makes R.the-type R′.the-plain 𝓤 H A) r _ is $ fjoin ! $ nothing ! $ join ! $ nothing ! $ move ! (1 ∷ 0 ∷ []) $ done !
 
@@ -157,22 +157,22 @@ module _ {M : Type 1} (𝓤 : URA M) (H : Heap 𝓤) (A : Atoms 𝓤) (W : Given
         assigns ! (agg ! (and-then ! (load ! (from ! (stop !)) (look ! 2 refl)) (and-then ! (load ! (from ! (fld ! refl (stop !))) (look-in ! 10 (sub ! 1 refl (whole !)))) (no-more !)))) (from ! (stop !)) (init ! 0 refl (tt, (tt, (record { fits = room₃ .0 }, tt)))) $
         -- [what `batch` asks; the locals; list's copy]
         move ! (18 ∷ []) $ calls-at ! fm (Batch 𝓤 H A mem run) known to-batch (and-then ! (load ! (from ! (stop !)) (look ! 5 refl)) (and-then ! (load ! (from ! (stop !)) (look ! 13 refl)) (and-then ! (load ! (from ! (stop !)) (look ! 1 refl)) (no-more !)))) (λ w.
-        use1 W (later (some (λ (r : Answer). (Tokens ⊛ ‵ (R.the-row .own r (w ∷ []))) ⊛ raw (ensured 𝓤 H A batch.ended (batch.clauses 𝓤 H A mem run) (κ₁, (κ₂, (κ₃, tt))) a tt r)))) (id⊢ 𝓤 _) $ await ! tt $ pick ! (λ r.
+        use1 W (later (some (λ (r : Batched). (Tokens ⊛ ‵ (R.the-row .own r (w ∷ []))) ⊛ raw (ensured 𝓤 H A batch.ended (batch.clauses 𝓤 H A mem run) (κ₁, (κ₂, (κ₃, tt))) a tt r)))) (id⊢ 𝓤 _) $ await ! tt $ pick ! (λ r.
         split ! $ move ! (1 ∷ []) $ use1 W (some (λ (zs : List ℕ × (Unit {0} × (List ℕ × Unit {0}))). ‵ (lasts batch.ended (κ₁, (κ₂, (κ₃, tt))) a zs)
-        ⊛ raw (fact 𝓤 (r ≡ batchAnswer st ys an)) ⊛ raw (fact 𝓤 (zs .0 ≡ batchState st ys an)) ⊛ raw (fact 𝓤 (zs .1 .1 .0 ≡ batchAnswers st ys an)))) (id⊢ 𝓤 _) $ pick ! (λ zs.
-        split ! $ move ! (1 ∷ []) $ split ! $ heard ! (r ≡ batchAnswer st ys an) (λ f₀. split ! $ heard ! (zs .0 ≡ batchState st ys an) (λ f₁. heard ! (zs .1 .1 .0 ≡ batchAnswers st ys an) (λ f₃.
+        ⊛ raw (fact 𝓤 (r ≡ batched st ys an)) ⊛ raw (fact 𝓤 (zs .0 ≡ batchState st ys an)) ⊛ raw (fact 𝓤 (zs .1 .1 .0 ≡ batchAnswers st ys an)))) (id⊢ 𝓤 _) $ pick ! (λ zs.
+        split ! $ move ! (1 ∷ []) $ split ! $ heard ! (r ≡ batched st ys an) (λ f₀. split ! $ heard ! (zs .0 ≡ batchState st ys an) (λ f₁. heard ! (zs .1 .1 .0 ≡ batchAnswers st ys an) (λ f₃.
         fsplit ! $ fsplit ! $ move ! (1 ∷ []) $ feqL ! (λ e₁. move ! (1 ∷ []) $ fsplit ! $ move ! (1 ∷ []) $ fsplit ! $ fsplit ! $ move ! (1 ∷ []) $ feqL ! (λ e₃.
         -- [answers' last list; true; true; state's; the tokens and the answer; the locals; list's copy]
         move ! (4 ∷ []) $ split ! $ move ! (1 ∷ []) $ facts ! R.the-row (Is R.the-row) (shows 𝓤 H A R.the-row) r (w ∷ []) (λ is. land ! (from ! (stop !)) (init ! 13 refl (EL.lawful R.the-type R′.the-laws 𝓤 H A W tt .typed r _ is .0)) $
         use0 W (raw (Encoded 𝓤 H A mem run .pre (to-encoded r w))) (asks r w is) $ calls-at ! fm (Encoded 𝓤 H A mem run) coded (to-encoded r w) (and-then ! (load ! (from ! (stop !)) (look ! 14 refl)) (no-more !)) (λ v.
         use1 W (later (some (λ (x : ℕ). (‵ ftrue ⊛ ‵ (u64 .own x (v ∷ []))) ⊛ raw (ensured 𝓤 H A encoded.ended (encoded.clauses 𝓤 H A mem run) tt (r, tt) tt x)))) (id⊢ 𝓤 _) $ await ! tt $ pick ! (λ x.
-        split ! $ move ! (1 ∷ []) $ use1 W (some (λ (us : Unit {0} × Unit {0}). ‵ (lasts encoded.ended tt (r, tt) us) ⊛ raw (fact 𝓤 (x ≡ encodedOf r)))) (id⊢ 𝓤 _) $ pick ! (λ us.
-        split ! $ move ! (1 ∷ []) $ heard ! (x ≡ encodedOf r) (λ f. move ! (1 ∷ []) $ split ! $ move ! (1 ∷ []) $
+        split ! $ move ! (1 ∷ []) $ use1 W (some (λ (us : Unit {0} × Unit {0}). ‵ (lasts encoded.ended tt (r, tt) us) ⊛ raw (fact 𝓤 (x ≡ encodedOf (answerOf r))))) (id⊢ 𝓤 _) $ pick ! (λ us.
+        split ! $ move ! (1 ∷ []) $ heard ! (x ≡ encodedOf (answerOf r)) (λ f. move ! (1 ∷ []) $ split ! $ move ! (1 ∷ []) $
         peeks ! u64 (Is u64) (shows 𝓤 H A u64) x (v ∷ []) (λ is′. land ! (from ! (stop !)) (init ! 24 refl (uint-lawful 𝓤 H A W w64 .typed x _ is′ .0)) $
         -- [the number; true; true; the tokens; answers' last list; true; true; state's; the locals; list's copy]
         returns ! (look ! 24 refl) $ forget ! 8 refl $ forget ! 10 refl $ forget ! 12 refl $ forget ! 14 refl $ forget ! 16 refl $ forget ! 18 refl $ forget ! 20 refl $ forget ! 22 refl $ forget ! 24 refl $
         move ! (24 ∷ 25 ∷ []) $ free1 ! $ move ! (22 ∷ 23 ∷ []) $ free1 ! $ move ! (20 ∷ 21 ∷ []) $ free1 ! $ move ! (18 ∷ 19 ∷ []) $ free1 ! $ move ! (16 ∷ 17 ∷ []) $ free1 ! $ move ! (14 ∷ 15 ∷ []) $ free1 ! $ move ! (12 ∷ 13 ∷ []) $ free1 ! $ move ! (10 ∷ 11 ∷ []) $ free1 ! $ move ! (8 ∷ 9 ∷ []) $ free1 ! $ free0 ! $
-        keep ! (3 ∷ 7 ∷ 8 ∷ 4 ∷ 0 ∷ []) $ by ! (exits x v (zs .0) (zs .1 .1 .0) e₁ e₃ (f ∙ ap encodedOf f₀, (f₁, f₃))))))))))))))))))))))))))
+        keep ! (3 ∷ 7 ∷ 8 ∷ 4 ∷ 0 ∷ []) $ by ! (exits x v (zs .0) (zs .1 .1 .0) e₁ e₃ (f ∙ ap (λ (b : Batched). encodedOf (answerOf b)) f₀, (f₁, f₃))))))))))))))))))))))))))
 
 module _ {M : Type 1} (𝓤 : URA M) (H : Heap 𝓤) (A : Atoms 𝓤) (W : Given 𝓤 H A) (mem : Memory → SProp 𝓤) (run : Routine → Fun 𝓤) (𝓣 : Tables 𝓤 H) where
   rif-walks : Triple 𝓤 (𝓣 .C #batch) (Batch 𝓤 H A mem run) → Triple 𝓤 (𝓣 .C #encoded) (Encoded 𝓤 H A mem run)
@@ -196,5 +196,5 @@ rif-batch-spec 𝓤 H 𝓜 𝓖 𝓡 =
     entered 𝓤 H (tripleOf 𝓤 H (𝓖 .A) rif.signature (rif.spec 𝓤 H (𝓖 .A) (𝓜 .mem) (𝓡 .run)))
     (tables 𝓤 H 𝓜 𝓡 code.env .C) (tables 𝓤 H 𝓜 𝓡 code.env .Λ) #rif-batch code.function (code.unfolded 𝓤 H 𝓜 𝓡)
     (rif-meets 𝓤 H (𝓖 .A) (givenOf 𝓤 H 𝓜 𝓖) (𝓜 .mem) (𝓡 .run) (tablesOf 𝓤 H 𝓜 (tables 𝓤 H 𝓜 𝓡 code.env))
-    (cited 𝓤 H (Batch 𝓤 H (𝓖 .A) (𝓜 .mem) (𝓡 .run)) 𝓜 𝓡 code.env #batch batch-def.routine code.calls-device·batches·batch (batch-thm.met 𝓤 H 𝓜 𝓖 𝓡))
-    (cited 𝓤 H (Encoded 𝓤 H (𝓖 .A) (𝓜 .mem) (𝓡 .run)) 𝓜 𝓡 code.env #encoded encoded-def.routine code.calls-access·answer·Answer·encoded (encoded-thm.met 𝓤 H 𝓜 𝓖 𝓡)))
+    (cited 𝓤 H (Batch 𝓤 H (𝓖 .A) (𝓜 .mem) (𝓡 .run)) 𝓜 𝓡 code.env #batch batch-def.routine code.calls-batch·batches·batch (batch-thm.met 𝓤 H 𝓜 𝓖 𝓡))
+    (cited 𝓤 H (Encoded 𝓤 H (𝓖 .A) (𝓜 .mem) (𝓡 .run)) 𝓜 𝓡 code.env #encoded encoded-def.routine code.calls-batch·batches·Batched·encoded (encoded-thm.met 𝓤 H 𝓜 𝓖 𝓡)))
