@@ -1,7 +1,7 @@
 -- Offsets.
 use mathlib.Core.Bool.{Bool, _&&_}
-use Prim.Native.Nat.{ℕ, _%_}
-use lib.Dec.{leb, eqb}
+use Prim.Native.Nat.{ℕ}
+use lib.Dec.{leb}
 
 -- o lies from first to last, both included
 abbrev pub within : ℕ → ℕ → ℕ → Bool

@@ -1,5 +1,5 @@
 -- A register access to the controller or to the IAC, by how it ends: one argument over the block.
-use mathlib.Core.Bool.{Bool, true, false, cond}
+use mathlib.Core.Bool.{Bool, false, cond}
 use mathlib.Core.Path.{_≡_, refl, sym, ap, _∙_}
 use Prim.Native.Nat.{ℕ}
 use Rattle.access.specs.Answer.{left}

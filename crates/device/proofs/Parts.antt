@@ -4,8 +4,8 @@ use mathlib.Core.Path.{_≡_, refl, sym, ap, ap₂, _∙_}
 use Prim.Native.Nat.{ℕ, zero, suc, _+_, _-_, _*_, _≤_, _<_}
 use native.Mathlib.Numerals.{add-one}
 use native.Mathlib.Omega.{arith}
-use lib.ListN.{length, take, drop, getD, set, replicate, take-append-drop, length-take, length-drop, length-append, length-replicate, getD-replicate}
-use lib.Seq.{append-snoc, set-split, paste, paste-suc, drop-paste, drop-length, take-all, take-at, drop-at, take-length, take-nil, drop-nil, length-take-le, drop-drop, take-take, take-append-le, drop-append-le, take-set-le, take-set-lt, drop-set-lt, drop-set-add, take-add}
+use lib.ListN.{length, take, drop, getD, set, replicate, length-take, length-drop, length-replicate}
+use lib.Seq.{append-snoc, set-split, paste, paste-suc, drop-paste, drop-length, take-at, drop-at, take-length, take-nil, drop-nil, length-take-le, drop-drop, take-take, take-append-le, drop-append-le, take-set-le, take-set-lt, drop-set-lt, drop-set-add, take-add}
 use Rattle.device.specs.Layout.{placeIn, total, partsOf, joined}
 
 -- ---- joined again
@@ -157,6 +157,13 @@ pub paste-all : (d s : List ℕ) → length d ≡ length s → paste d 0 s (leng
 paste-all d s h =
     let e : 0 + length s ≡ length d = omega arith in
     ap₂ _++_ (take-length s) (ap (λ (k : ℕ). drop k d) e ∙ drop-length d) ∙ append-nil s
+
+-- the words from a place on, copied over as many zeros
+pub read-words : (n : ℕ) (m : List ℕ) (at : ℕ) → at + n ≤ length m
+    → paste (replicate n 0) 0 (take n (drop at m)) (length (take n (drop at m))) ≡ take n (drop at m)
+read-words n m at h =
+    let l : n ≤ length (drop at m) = simp length-drop (omega (arith, h)) in
+    paste-all (replicate n 0) (take n (drop at m)) (length-replicate n 0 ∙ sym (length-take-le n (drop at m) l))
 
 -- a word stored is a copy of one
 pub set-paste : (m : List ℕ) (at v : ℕ) → at < length m → set m at v ≡ paste m at (v ∷ []) 1

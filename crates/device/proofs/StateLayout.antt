@@ -1,5 +1,4 @@
 -- The state in lent words: the words are its layout, and what a part or a word stored there changes of it.
-use mathlib.Core.Bool.{Bool, true, false}
 use mathlib.Core.List.{List, [], _∷_, _++_, map, append-nil}
 use mathlib.Core.Path.{_≡_, refl, sym, ap, ap₂, _∙_}
 use Prim.Native.Nat.{ℕ, zero, suc, _+_, _-_, _*_, _≤_, _<_}
@@ -8,7 +7,7 @@ use native.Mathlib.Omega.{arith}
 use borrow.Author.Tests.{eq-eqb, lt-ltb}
 use lib.Dec.{lit<}
 use lib.ListN.{length, length-map, drop-of-length-le, length-set, take, drop, getD, set, replicate, take-append-drop, length-take, length-drop, length-replicate, getD-replicate, List·getD-map}
-use lib.Seq.{paste, length-paste, set-getD, set-set, getD-set-same, take-all, drop-append-le, take-append-le, drop-set-lt, drop-set-add, drop-drop, length-take-le, getD-take, getD-drop, drop-cons, take-set-le}
+use lib.Seq.{paste, length-paste, set-getD, set-set, getD-set-same, take-all, drop-set-add, drop-drop, length-take-le, getD-take, getD-drop}
 use Rattle.risaf.specs.Contents.{headWords, regionsWords, guardSize, guardWords, guardFrom, withWord, reset}
 use Rattle.risaf.specs.Guards.{guardCount}
 use Rattle.risaf.specs.declared.contents.Guard.{Guard}

@@ -1,9 +1,11 @@
 -- The state in lent memory: its parts, one after the other.
-use mathlib.Core.Bool.{Bool, _&&_, cond}
+use mathlib.Core.Bool.{_&&_, cond}
 use mathlib.Core.List.{List, [], _∷_, _++_, map}
 use Prim.Native.Nat.{ℕ, zero, suc, _+_, _*_}
 use lib.Dec.{eqb, ltb}
 use lib.ListN.{length, getD, take, drop, replicate}
+use Rattle.words.specs.Six.{bitWords}
+use Rattle.rifsc.specs.Masters.{masters}
 use Rattle.risaf.specs.Contents.{headWords, guardSize, guardWords, guardFrom}
 use Rattle.risaf.specs.Guards.{guardCount}
 use Rattle.device.specs.State.{State}
@@ -60,9 +62,9 @@ isrPart = 7
 abbrev pub headSizes : List ℕ
 headSizes =
     -- RIFSC: CR, SECCFGR, PRIVCFGR, RCFGLOCKR, RIMC_CR, ATTR
-    1 ∷ 6 ∷ 6 ∷ 6 ∷ 1 ∷ 13
+    1 ∷ bitWords ∷ bitWords ∷ bitWords ∷ 1 ∷ masters
     -- IAC: IER, ISR
-    ∷ 6 ∷ 6
+    ∷ bitWords ∷ bitWords
     ∷ []
 
 -- the guards behind them, in rising number

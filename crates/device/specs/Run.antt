@@ -1,6 +1,5 @@
 -- Events one after the other.
 use mathlib.Core.List.{List, [], _∷_}
-use Rattle.access.specs.declared.answer.Answer.{Answer}
 use Rattle.device.specs.State.{State}
 use Rattle.device.specs.Step.{step}
 use Rattle.device.specs.declared.event.Event.{Event}
@@ -9,8 +8,3 @@ use Rattle.device.specs.declared.event.Event.{Event}
 unfoldable pub run : List Event → State → State
 run [] s = s
 run (e ∷ es) s = run es (step e s .next)
-
--- the answer to each
-unfoldable pub answers : List Event → State → List Answer
-answers [] s = []
-answers (e ∷ es) s = step e s .answer ∷ answers es (step e s .next)

@@ -1,5 +1,5 @@
 -- What an event answers and leaves: document 01, "Events".
-use mathlib.Core.Bool.{Bool, true, false, not, _&&_, cond}
+use mathlib.Core.Bool.{Bool, true, false, not, _&&_}
 use Prim.Native.Nat.{ℕ}
 use Rattle.access.specs.Answer.{left}
 use Rattle.access.specs.Checks.{answered}

@@ -9,11 +9,15 @@ use crate::layout::RIMC_CR;
 use crate::layout::SECCFGR;
 use access::Flag;
 use iac::Iac;
+use rifsc::MASTERS;
 use rifsc::Rifsc;
+use words::BIT_WORDS;
 ghost use mathlib.Core.Path.{_≡_};
 ghost use Prim.Native.Nat.{_+_, _≤_};
 ghost use lib.ListN.{drop, length, take};
 ghost use lib.Seq.{paste};
+ghost use Rattle.words.specs.Six.{bitWords};
+ghost use Rattle.rifsc.specs.Masters.{masters};
 ghost use Rattle.device.specs.Layout.{stateOf, stateWords};
 ghost use Rattle.device.specs.State.{flagged, withIac, withRifsc};
 
@@ -28,37 +32,37 @@ pub(crate) fn put(dst: &mut [u32], at: usize, words: &[u32])
 }
 
 // The six words from at on.
-fn six(state: &[u32], at: usize) -> [u32; 6]
-    requires { ⌜ at + 6 ≤ length (now state) ⌝ }
-    ensures { λ r. ⌜ r ≡ take 6 (drop at (now (state .entry))) ⌝ }
+fn six(state: &[u32], at: usize) -> [u32; BIT_WORDS]
+    requires { ⌜ at + bitWords ≤ length (now state) ⌝ }
+    ensures { λ r. ⌜ r ≡ take bitWords (drop at (now (state .entry))) ⌝ }
 {
-    let mut words = [0u32; 6];
-    put(&mut words, 0, &state[at..at + 6]);
+    let mut words = [0u32; BIT_WORDS];
+    put(&mut words, 0, &state[at..at + BIT_WORDS]);
     words
 }
 
-// The thirteen words from at on.
-fn thirteen(state: &[u32], at: usize) -> [u32; 13]
-    requires { ⌜ at + 13 ≤ length (now state) ⌝ }
-    ensures { λ r. ⌜ r ≡ take 13 (drop at (now (state .entry))) ⌝ }
+// A word of each master, from at on.
+fn attr(state: &[u32], at: usize) -> [u32; MASTERS]
+    requires { ⌜ at + masters ≤ length (now state) ⌝ }
+    ensures { λ r. ⌜ r ≡ take masters (drop at (now (state .entry))) ⌝ }
 {
-    let mut words = [0u32; 13];
-    put(&mut words, 0, &state[at..at + 13]);
+    let mut words = [0u32; MASTERS];
+    put(&mut words, 0, &state[at..at + MASTERS]);
     words
 }
 
 // Stores six words from at on.
-fn store_six(state: &mut [u32], at: usize, words: [u32; 6])
-    requires { ⌜ at + 6 ≤ length (now state) ⌝ }
-    ensures { λ _. ⌜ (length words ≡ 6) × (now (state .exit) ≡ paste (now (state .entry)) at words (length words)) ⌝ }
+fn store_six(state: &mut [u32], at: usize, words: [u32; BIT_WORDS])
+    requires { ⌜ at + bitWords ≤ length (now state) ⌝ }
+    ensures { λ _. ⌜ (length words ≡ bitWords) × (now (state .exit) ≡ paste (now (state .entry)) at words (length words)) ⌝ }
 {
     put(state, at, &words);
 }
 
-// Stores thirteen words from at on.
-fn store_thirteen(state: &mut [u32], at: usize, words: [u32; 13])
-    requires { ⌜ at + 13 ≤ length (now state) ⌝ }
-    ensures { λ _. ⌜ (length words ≡ 13) × (now (state .exit) ≡ paste (now (state .entry)) at words (length words)) ⌝ }
+// Stores a word of each master, from at on.
+fn store_attr(state: &mut [u32], at: usize, words: [u32; MASTERS])
+    requires { ⌜ at + masters ≤ length (now state) ⌝ }
+    ensures { λ _. ⌜ (length words ≡ masters) × (now (state .exit) ≡ paste (now (state .entry)) at words (length words)) ⌝ }
 {
     put(state, at, &words);
 }
@@ -73,7 +77,7 @@ pub(crate) fn load_rifsc(state: &[u32]) -> Rifsc
         privcfgr: six(state, PRIVCFGR),
         rcfglockr: six(state, RCFGLOCKR),
         rimccr: state[RIMC_CR],
-        attr: thirteen(state, ATTR),
+        attr: attr(state, ATTR),
     }
 }
 
@@ -88,7 +92,7 @@ pub(crate) fn store_rifsc(state: &mut [u32], r: Rifsc)
     store_six(state, SECCFGR, seccfgr);
     store_six(state, PRIVCFGR, privcfgr);
     store_six(state, RCFGLOCKR, rcfglockr);
-    store_thirteen(state, ATTR, attr);
+    store_attr(state, ATTR, attr);
     state[CR] = r.cr;
     state[RIMC_CR] = r.rimccr;
 }

@@ -1,8 +1,10 @@
 // The state's memory: every part of it, one after the other, each behind the part before. specs/Layout.antt has the same as sizes.
+use rifsc::MASTERS;
 use risaf::GUARD_COUNT;
 use risaf::GUARD_WORDS;
 use risaf::HEAD_WORDS;
 use risaf::REGIONS_WORDS;
+use words::BIT_WORDS;
 ghost use mathlib.Core.Path.{_≡_};
 ghost use Rattle.device.specs.Layout.{regionsIn};
 
@@ -11,21 +13,21 @@ pub(crate) const CR: usize = 0;
 
 pub(crate) const SECCFGR: usize = CR + 1;
 
-pub(crate) const PRIVCFGR: usize = SECCFGR + 6;
+pub(crate) const PRIVCFGR: usize = SECCFGR + BIT_WORDS;
 
-pub(crate) const RCFGLOCKR: usize = PRIVCFGR + 6;
+pub(crate) const RCFGLOCKR: usize = PRIVCFGR + BIT_WORDS;
 
-pub(crate) const RIMC_CR: usize = RCFGLOCKR + 6;
+pub(crate) const RIMC_CR: usize = RCFGLOCKR + BIT_WORDS;
 
 pub(crate) const ATTR: usize = RIMC_CR + 1;
 
 // IAC.
-pub(crate) const IER: usize = ATTR + 13;
+pub(crate) const IER: usize = ATTR + MASTERS;
 
-pub(crate) const ISR: usize = IER + 6;
+pub(crate) const ISR: usize = IER + BIT_WORDS;
 
 // The guards, in rising number.
-pub(crate) const GUARDS: usize = ISR + 6;
+pub(crate) const GUARDS: usize = ISR + BIT_WORDS;
 
 // How many words the state has.
 pub const STATE_WORDS: usize = GUARDS + GUARD_COUNT * GUARD_WORDS;

@@ -1,6 +1,7 @@
 -- The registers of the IAC as stored, and reset: document 01, "IAC".
 use Prim.Native.Nat.{ℕ}
 use lib.ListN.{getD, set, replicate}
+use Rattle.words.specs.Six.{bitWords}
 use Rattle.iac.specs.Registers.{iisr}
 use Rattle.iac.specs.declared.registers.Register.{Register}
 use Rattle.iac.specs.declared.registers.Register.the-variants.{Ier, Isr, Icr, Iisr, Unknown}
@@ -26,4 +27,4 @@ withStored s (Iisr x) v = s
 withStored s Unknown v = s
 
 unfoldable pub reset : Iac
-reset = record { ier = replicate 6 0; isr = replicate 6 0 }
+reset = record { ier = replicate bitWords 0; isr = replicate bitWords 0 }

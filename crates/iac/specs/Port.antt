@@ -1,5 +1,5 @@
 -- A register access to the IAC: document 01, "IAC".
-use mathlib.Core.Bool.{Bool, true, false, not, _&&_, _||_, cond}
+use mathlib.Core.Bool.{true, not, _&&_, _||_, cond}
 use Prim.Native.Nat.{ℕ, _%_}
 use lib.Dec.{eqb}
 use Rattle.words.specs.Bit.{bit, word, masked, merged}

@@ -1,13 +1,14 @@
 use crate::Register;
 use crate::registers::iisr;
 use access::Answer;
+use words::BIT_WORDS;
 ghost use mathlib.Core.Path.{_≡_};
 ghost use Rattle.iac.specs.Contents.{reset, stored, withStored};
 
 // The enables and the flags as stored, whole words.
 pub struct Iac {
-    pub ier: [u32; 6],
-    pub isr: [u32; 6],
+    pub ier: [u32; BIT_WORDS],
+    pub isr: [u32; BIT_WORDS],
 }
 
 // What an access leaves: the next state and the answer.
@@ -21,8 +22,8 @@ impl Iac {
         ensures { λ r. ⌜ r ≡ reset ⌝ }
     {
         Iac {
-            ier: [0; 6],
-            isr: [0; 6],
+            ier: [0; BIT_WORDS],
+            isr: [0; BIT_WORDS],
         }
     }
 

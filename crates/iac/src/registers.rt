@@ -24,7 +24,7 @@ pub(crate) struct Row {
 }
 
 // IISR0 to IISR5.
-pub(crate) const FLAGS: [u32; 6] = [
+pub(crate) const FLAGS: [u32; words::BIT_WORDS] = [
     0xffff_ff7f,
     0x77ff_ffff,
     0x77df_f03b,

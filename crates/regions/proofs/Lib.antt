@@ -3,5 +3,4 @@ pub mod Enough
 pub mod MaskTally
 pub mod RightsBits
 pub mod RightsBytes
-pub mod Steady
 pub mod Tally

@@ -1,6 +1,6 @@
 -- Which rule governs an offset, and whether it grants a kind of asking: document 01, "Which rule governs".
 -- w are the words of a guard's regions, n its count of base regions, o the offset, k the kind of asking.
-use mathlib.Core.Bool.{Bool, true, false, not, _&&_, _||_, cond, Bool·beq}
+use mathlib.Core.Bool.{Bool, not, _&&_, _||_, cond, Bool·beq}
 use mathlib.Core.List.{List}
 use Prim.Native.Nat.{ℕ, _+_}
 use lib.ListN.{getD}

@@ -26,8 +26,8 @@ use Rattle.map.proofs.Guards.{small}
 use Rattle.map.proofs.Sheets.{sheets}
 use Rattle.map.proofs.Steady.{guard-rows-most}
 use Rattle.print.specs.Bytes.{bytes}
-use Rattle.print.specs.Print.{guardLine, endLine, spanLine}
-use Rattle.print.proofs.Digits.{label-length, span-length, width-bound}
+use Rattle.print.specs.Print.{guardLine, endLine}
+use Rattle.print.proofs.Digits.{label-length, width-bound}
 use Rattle.print.proofs.Distinct.{same-parts, span-same}
 use Rattle.response.specs.Response.{mapText}
 use Rattle.response.specs.Sheet.{sheet, spanLines}

@@ -1,6 +1,6 @@
 -- A sheet's lines one after the other, and which of a map's two texts it is.
 use mathlib.Core.Bool.{Bool, true, false, _&&_, cond}
-use mathlib.Core.List.{List, [], _++_, append-nil}
+use mathlib.Core.List.{List, [], append-nil}
 use mathlib.Core.Path.{_≡_, refl, sym, ap, _∙_}
 use Prim.Native.Nat.{ℕ, _+_, _*_, _/_, _^_, _≤_, _<_}
 use native.Mathlib.Omega.{arith}
@@ -98,7 +98,7 @@ module _ (m l : List ℕ) (n : ℕ) (long : length l ≡ leastRoom) {a : Answer}
       rw (← refused-text m l n long (λ z. not (its ∙ ap numberOf answer ∙ z)), ← answer) w
 
   module _ {part l′ : List ℕ} {used : ℕ} (zero : number ≡ 0) (l′-is : l′ ≡ fillNumbers m n l) (used-is : used ≡ fillUsed m n l)
-    (part-is : part ≡ usedPart l′ used) where
+      (part-is : part ≡ usedPart l′ used) where
     is-done : numberOf (fillAnswer m n l) ≡ 0
     is-done = sym (ap numberOf answer) ∙ sym its ∙ zero
 

@@ -1,12 +1,11 @@
 -- Lines for which there is room, and how long they are.
-use mathlib.Core.Bool.{true}
-use mathlib.Core.List.{List, [], _++_, append-nil}
-use mathlib.Core.Path.{_≡_, refl, sym, ap, _∙_}
-use Prim.Native.Nat.{ℕ, zero, suc, _+_, _*_, _^_, _≤_, _<_}
+use mathlib.Core.List.{List, append-nil}
+use mathlib.Core.Path.{_≡_, refl, sym, _∙_}
+use Prim.Native.Nat.{ℕ, _+_, _*_, _^_, _≤_, _<_}
 use native.Mathlib.Omega.{arith}
 use native.Mathlib.Numerals.{add-one}
 use borrow.Author.Tests.{le-leb}
-use lib.ListN.{length, take, drop, length-append, take-append-drop}
+use lib.ListN.{length, take, length-append, take-append-drop}
 use Rattle.access.specs.Answer.{numberOf, valueOf}
 use Rattle.access.specs.declared.answer.Answer.{Answer}
 use Rattle.access.proofs.Answers.{number-most}
@@ -14,7 +13,7 @@ use Rattle.spans.specs.Rows.{Rows, none, more, size, start, end, rights, rowsIn
 use Rattle.spans.proofs.Memory.{size-rows}
 use Rattle.print.specs.Parts.{Wrote}
 use Rattle.print.specs.Print.{answerLine, labelLine, spanLine}
-use Rattle.print.specs.Writing.{over, bytesWith, placeWith}
+use Rattle.print.specs.Writing.{bytesWith, placeWith}
 use Rattle.print.proofs.Digits.{answer-length, label-length, span-length, width-bound}
 use Rattle.print.proofs.Writing.{join}
 use Rattle.response.specs.Response.{answerText, most}

@@ -1,7 +1,7 @@
 -- The bits that a write takes, as the code makes them.
 use mathlib.Core.Bool.{Bool, true, false, not, _&&_, _||_, cond, and-true}
 use mathlib.Core.Path.{_≡_, refl, sym, _∙_}
-use Prim.Native.Nat.{ℕ, _<_}
+use Prim.Native.Nat.{ℕ}
 use lib.Dec.{eqb}
 use Rattle.words.specs.Bit.{bit, word, field, masked, less, united}
 use Rattle.words.proofs.Laws.{bit-less, less-lt, word-ext}

@@ -3,6 +3,8 @@ use mathlib.Core.Bool.{Bool, false}
 use Prim.Native.Nat.{ℕ}
 use lib.ListN.{getD, set, replicate}
 use Rattle.words.specs.Bit.{bit}
+use Rattle.words.specs.Six.{bitWords}
+use Rattle.rifsc.specs.Masters.{masters}
 use Rattle.rifsc.specs.Registers.{ppsr}
 use Rattle.rifsc.specs.declared.registers.Lock.{Lock}
 use Rattle.rifsc.specs.declared.registers.Lock.the-variants.{Glock, RimcLock, Never}
@@ -102,9 +104,9 @@ unfoldable pub reset : Rifsc
 reset =
     record {
       cr = 0;
-      seccfgr = replicate 6 0;
-      privcfgr = replicate 6 0;
-      rcfglockr = replicate 6 0;
+      seccfgr = replicate bitWords 0;
+      privcfgr = replicate bitWords 0;
+      rcfglockr = replicate bitWords 0;
       rimccr = 0x0000_0710;
-      attr = replicate 13 0;
+      attr = replicate masters 0;
     }

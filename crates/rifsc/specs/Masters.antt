@@ -9,8 +9,11 @@ use Rattle.rifsc.specs.declared.masters.MasterNumber.{MasterNumber}
 use Rattle.rifsc.specs.declared.contents.Rifsc.{Rifsc}
 
 -- ATTR0 to ATTR12
+abbrev pub masters : ℕ
+masters = 13
+
 unfoldable pub isMaster : MasterNumber → Bool
-isMaster m = ltb (m .0) 13
+isMaster m = ltb (m .0) masters
 
 -- MCID is bits 6:4, MSEC bit 8, MPRIV bit 9
 unfoldable pub carried : Rifsc → MasterNumber → Bool → Kind

@@ -1,7 +1,9 @@
 use crate::Register;
+use crate::masters::MASTERS;
 use crate::registers::Lock;
 use crate::registers::ppsr;
 use access::Answer;
+use words::BIT_WORDS;
 ghost use mathlib.Core.Path.{_≡_};
 ghost use lib.ListN.{getD, set};
 ghost use Rattle.rifsc.specs.Contents.{isLocked, reset, seen, stored, withStored};
@@ -9,11 +11,11 @@ ghost use Rattle.rifsc.specs.Contents.{isLocked, reset, seen, stored, wi
 // The controller's registers as stored, whole words.
 pub struct Rifsc {
     pub cr: u32,
-    pub seccfgr: [u32; 6],
-    pub privcfgr: [u32; 6],
-    pub rcfglockr: [u32; 6],
+    pub seccfgr: [u32; BIT_WORDS],
+    pub privcfgr: [u32; BIT_WORDS],
+    pub rcfglockr: [u32; BIT_WORDS],
     pub rimccr: u32,
-    pub attr: [u32; 13],
+    pub attr: [u32; MASTERS],
 }
 
 // What an access to a register looks at.
@@ -37,16 +39,16 @@ pub struct Stepped {
 const RIMC_RESET: u32 = 0x0000_0710;
 
 // ATTR of master m; past the last there is none.
-pub(crate) fn attr_at(attr: [u32; 13], m: usize) -> u32
+pub(crate) fn attr_at(attr: [u32; MASTERS], m: usize) -> u32
     ensures { λ r. ⌜ r ≡ getD attr m 0 ⌝ }
 {
-    if m < 13 { attr[m] } else { 0 }
+    if m < MASTERS { attr[m] } else { 0 }
 }
 
-fn with_attr(mut attr: [u32; 13], m: usize, v: u32) -> [u32; 13]
+fn with_attr(mut attr: [u32; MASTERS], m: usize, v: u32) -> [u32; MASTERS]
     ensures { λ r. ⌜ r ≡ set attr m v ⌝ }
 {
-    if m < 13 {
+    if m < MASTERS {
         attr[m] = v;
     }
     attr
@@ -58,11 +60,11 @@ impl Rifsc {
     {
         Rifsc {
             cr: 0,
-            seccfgr: [0; 6],
-            privcfgr: [0; 6],
-            rcfglockr: [0; 6],
+            seccfgr: [0; BIT_WORDS],
+            privcfgr: [0; BIT_WORDS],
+            rcfglockr: [0; BIT_WORDS],
             rimccr: RIMC_RESET,
-            attr: [0; 13],
+            attr: [0; MASTERS],
         }
     }
 

@@ -7,6 +7,7 @@ pub mod registers;
 
 pub use contents::Rifsc;
 pub use contents::Stepped;
+pub use masters::MASTERS;
 pub use masters::MasterNumber;
 pub use peripherals::PeripheralNumber;
 pub use registers::Register;

@@ -9,7 +9,7 @@ ghost use Rattle.rifsc.specs.Masters.{carried, isMaster};
 pub struct MasterNumber(pub u32);
 
 // How many masters there are, with an ATTR each: MCID, MSEC and MPRIV.
-const MASTERS: u32 = 13;
+pub const MASTERS: usize = 13;
 
 pub(crate) const MCID_AT: u32 = 4;
 
@@ -23,7 +23,7 @@ impl MasterNumber {
     pub fn exists(self) -> bool
         ensures { λ r. ⌜ r ≡ isMaster self ⌝ }
     {
-        self.0 < MASTERS
+        self.0 < MASTERS as u32
     }
 }
 

@@ -46,7 +46,7 @@ pub(crate) const ATTR_FLAGS: u32 = 0x0000_0300;
 pub(crate) const ATTR_NAMED: u32 = 0x0000_0370;
 
 // PPSR0 to PPSR5.
-pub(crate) const PERIPHERALS: [u32; 6] = [
+pub(crate) const PERIPHERALS: [u32; words::BIT_WORDS] = [
     0xffff_ff7f,
     0x77ff_ffff,
     0xf7df_f03b,

@@ -2,10 +2,10 @@
 use mathlib.Core.Bool.{Bool, true, false, _&&_, _||_, and-false, or-false}
 use mathlib.Core.List.{List}
 use mathlib.Core.Path.{_≡_, refl, sym, ap, _∙_}
-use Prim.Native.Nat.{ℕ, _*_, _%_, _≤_, _<_}
+use Prim.Native.Nat.{ℕ, _%_, _≤_, _<_}
 use native.Mathlib.Decide.{decLt}
 use native.Mathlib.Omega.{arith}
-use lib.Dec.{eqb, leb, ltb}
+use lib.Dec.{eqb, ltb}
 use lib.ListN.{length}
 use borrow.Author.Tests.{eq-eqb, ne-eqb, lt-leb, eqb-true}
 use Rattle.access.specs.Checks.{answered}
@@ -15,7 +15,7 @@ use Rattle.access.specs.declared.answer.Why.the-variants.{NoSuch}
 use Rattle.access.specs.Kind.{debugger, isCid}
 use Rattle.access.specs.declared.checks.Checks.{Checks}
 use Rattle.access.specs.declared.kind.Kind.{Kind}
-use Rattle.regions.specs.Lent.{enough, decidedIn}
+use Rattle.regions.specs.Lent.{decidedIn}
 use Rattle.risaf.specs.Memory.{isWidth, memoryChecks, memoryAnswer}
 use Rattle.regions.specs.Rules.{decided}
 use Rattle.regions.specs.Words.{base, mostRegions}

@@ -3,9 +3,9 @@ use mathlib.Core.Bool.{Bool, true, false, not, _&&_, _||_, cond, and-true, and-f
 use mathlib.Core.Path.{_≡_, refl, sym, ap, _∙_}
 use Prim.Native.Nat.{ℕ, _^_, _<_}
 use lib.Dec.{eqb}
-use Rattle.words.specs.Bit.{bit, word, masked, less, merged, united, withBit}
+use Rattle.words.specs.Bit.{bit, word, merged, withBit}
 use Rattle.words.proofs.Laws.{bit-word, bit-withBit, withBit-lt, word-ext}
-use Rattle.words.proofs.Masks.{less-masked, merged-by, united-masked}
+use Rattle.words.proofs.Masks.{merged-by}
 use Rattle.regions.specs.Words.{secBit}
 use Rattle.risaf.specs.Port.{bitIf, subcfgrWritten}
 use Rattle.risaf.specs.declared.port.Port.{Port}

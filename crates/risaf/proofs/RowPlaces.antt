@@ -1,5 +1,5 @@
 -- Every register's word lies among the guard's.
-use Prim.Native.Nat.{ℕ, _+_, _*_, _<_}
+use Prim.Native.Nat.{ℕ, _<_}
 use native.Mathlib.Omega.{arith}
 use lib.Dec.{lit<}
 use Rattle.regions.specs.Words.{mostRegions}

@@ -1,7 +1,7 @@
 -- What holds of each row of the table of guards holds of every guard's shape.
 use mathlib.Core.Bool.{Bool, true, false, _&&_, cond}
 use mathlib.Core.List.{List, [], _∷_}
-use mathlib.Core.Path.{_≡_, refl, sym, ap, _∙_}
+use mathlib.Core.Path.{_≡_, refl, sym}
 use Prim.Native.Nat.{ℕ, zero, suc, _+_, _^_, _≤_, _<_}
 use native.Mathlib.Omega.{arith}
 use lib.Dec.{eqb, leb, lit≤, lit<}
@@ -92,14 +92,3 @@ window-most n =
 
 pub place-lt : (n : ℕ) → shapeOf n .place < guardCount
 place-lt n = by-guard (λ s. s .place < guardCount) n (lit< tt) (λ i h q. h)
-
--- the number of the row at a guard's place is the guard's
-number-at : (n : ℕ) → isGuard n ≡ true → rowAt guards (shapeOf n .place) .number ≡ n
-number-at n = by-guard (λ s. s .there ≡ true → rowAt guards (s .place) .number ≡ n) n (λ e. cc) (λ i h q e. sym q)
-
--- so guards at the same place are one
-pub place-one : (n m : ℕ) → isGuard n ≡ true → isGuard m ≡ true → shapeOf n .place ≡ shapeOf m .place → n ≡ m
-place-one n m g h e = sym (number-at n g) ∙ ap (λ (i : ℕ). rowAt guards i .number) e ∙ number-at m h
-
-pub flag-is : (n : ℕ) → isGuard n ≡ true → shapeOf n .flag .0 ≡ flagOf n
-flag-is n = by-guard (λ s. s .there ≡ true → s .flag .0 ≡ flagOf n) n (λ e. cc) (λ i h q e. refl)

@@ -1,5 +1,5 @@
 -- A memory access to a guard: document 01, the order of its checks, and "A refused memory access sets IAEF".
-use mathlib.Core.Bool.{Bool, true, false, _&&_, _||_, cond}
+use mathlib.Core.Bool.{Bool, true, _&&_, _||_, cond}
 use Prim.Native.Nat.{ℕ, _+_, _*_, _%_}
 use lib.Dec.{ltb, eqb}
 use Rattle.words.specs.Bit.{bit, one, merged, withBit}

@@ -33,7 +33,7 @@ fn main() {
         );
         return;
     }
-    let mut state = [0u32; 1813];
+    let mut state = [0u32; device::STATE_WORDS];
     device::apply(&mut state, Event::Reset);
     let mut block = io::large_buffer();
     let mut line = [0u8; 65];

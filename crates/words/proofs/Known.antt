@@ -7,18 +7,14 @@
 --     length-known (c .args .h .long) (long .1 .0 .1)                    says that the length is 4
 --     fits-known w64 (c .args .h .long) (long .0) (long .1 .1) i         says that the element at i is below 2 ^ 64
 use mathlib.Core.List.{List, [], _∷_, map}
-use mathlib.Core.Path.{_≡_, sym, _∙_}
 use Prim.Native.Nat.{ℕ, zero, suc, _^_, _<_}
-use lib.ListN.{length, length-map, getD}
+use lib.ListN.{getD}
 use lib.Pow.{pow-pos}
 use mir.Syntax.{Width}
 use mir.Val.{Val, bits}
 use denote.Plain.{UInt}
 use denote.Array.{each}
 use denote.Shadow.{shadow}
-
-pub length-known : {A : Type 0} (xs : List A) {n : ℕ} → length (map (λ (v : A). v) xs) ≡ n → length xs ≡ n
-length-known xs e = sym (length-map xs (λ v. v)) ∙ e
 
 pub fits-known : (w : Width) (xs : List ℕ) (us : List Val) → shadow (each ℕ (UInt w .own) (map (λ (v : ℕ). v) xs) us)
     → (i : ℕ) → getD xs i 0 < 2 ^ bits w

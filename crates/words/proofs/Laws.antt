@@ -146,9 +146,6 @@ pub field-ext : (x y at wide : ℕ) → ((k : ℕ) → k < wide → bit x (at + 
     → field x at wide ≡ field y at wide
 field-ext x y at wide h = field-bits x at wide ∙ word-cong wide _ _ h ∙ sym (field-bits y at wide)
 
-pub field-start : (x wide : ℕ) → field x 0 wide ≡ x % 2 ^ wide
-field-start x wide = ap (λ (y : ℕ). y % 2 ^ wide) (omega arith)
-
 -- a field that reaches the end of x
 pub field-rest : (n x at wide : ℕ) → x < 2 ^ n → n ≤ at + wide → field x at wide ≡ x / 2 ^ at
 field-rest n x at wide l h =

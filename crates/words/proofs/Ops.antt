@@ -2,14 +2,14 @@
 -- At width n the code's `!x` is (2 ^ n - 1) - x, `x >> k` is x / 2 ^ k, and `x << k` is (x * 2 ^ k) % 2 ^ n.
 use mathlib.Core.Path.{_≡_, refl, ap, _∙_}
 use mathlib.Core.Bool.{Bool, true, false, not, _&&_, _||_, cond, and-comm, and-true, and-false, or-true, or-false}
-use Prim.Native.Nat.{ℕ, zero, suc, _+_, _-_, _*_, _/_, _%_, _^_, _<_}
+use Prim.Native.Nat.{ℕ, zero, suc, _-_, _*_, _/_, _%_, _^_, _<_}
 use native.Mathlib.Nat.{mod-lt, mod-eq-of-lt, lt-of-le-of-lt}
 use native.Mathlib.Omega.{arith}
 use lib.Dec.{eqb}
 use lib.Pow.{pow-pos, pow-lt, ones-sub-lt}
 use lib.Bits.{bitAnd, bitOr, and-shr, and-mod, or-shr, or-mod, or-lt, and-le-l, and-le-r}
 use Rattle.words.specs.Bit.{bit, field, masked, less, merged, united, withBit}
-use Rattle.words.proofs.Laws.{word-ext, word-not, bit-word, bit-mod, bit-upper, bit-lower, bit-zero, bit-pow}
+use Rattle.words.proofs.Laws.{word-ext, word-not, bit-word, bit-pow}
 use Rattle.words.proofs.Masks.{cond-or}
 
 -- ---- bit by bit
@@ -44,14 +44,6 @@ pub bit-not : (n a k : ℕ) → a < 2 ^ n → k < n → bit ((2 ^ n - 1) - a) k 
 bit-not n a k l h =
     ap (λ (x : ℕ). bit x k) (omega (arith, word-not n (bit a), word-ext n a (bit a) l (λ j _. refl)))
     ∙ bit-word n (λ j. not (bit a j)) k h
-
-pub bit-shl : (n x j k : ℕ) → j + k < n → bit ((x * 2 ^ j) % 2 ^ n) (j + k) ≡ bit x k
-bit-shl n x j k h =
-    bit-mod n (x * 2 ^ j) (j + k) h ∙ ap (λ (y : ℕ). bit y (j + k)) (omega arith) ∙ bit-upper x j 0 k (pow-pos j)
-
-pub bit-shl-low : (n x j k : ℕ) → k < n → k < j → bit ((x * 2 ^ j) % 2 ^ n) k ≡ false
-bit-shl-low n x j k h l =
-    bit-mod n (x * 2 ^ j) k h ∙ ap (λ (y : ℕ). bit y k) (omega arith) ∙ bit-lower x j 0 k (pow-pos j) l ∙ bit-zero k
 
 -- 1 << k
 pub shl-one : (n k : ℕ) → k < n → (1 * 2 ^ k) % 2 ^ n ≡ 2 ^ k

@@ -5,6 +5,10 @@ use Prim.Native.Nat.{ℕ, _/_, _%_}
 use lib.ListN.{getD}
 use Rattle.words.specs.Bit.{bit}
 
+-- how many words
+abbrev pub bitWords : ℕ
+bitWords = 6
+
 -- bit i, counted over all the words
 abbrev pub bitAt : List ℕ → ℕ → Bool
 bitAt words i = bit (getD words (i / 32) 0) (i % 32)

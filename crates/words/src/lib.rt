@@ -4,6 +4,7 @@ ghost use Rattle.words.specs.Bit.{bit, field, less, masked, merged, unit
 
 pub mod six;
 
+pub use six::BIT_WORDS;
 pub use six::bit_at;
 pub use six::with_word;
 pub use six::word_at;

@@ -1,7 +1,6 @@
 -- Document 01's marked examples, W1 to W14. Register offsets of guard 2: region 1 is at 040, its subregion A at 050.
 use mathlib.Core.Bool.{true, false}
 use mathlib.Core.List.{List, [], _∷_, _++_}
-use Prim.Native.Nat.{ℕ}
 use Rattle.device.specs.declared.event.Block.{Block}
 use Rattle.device.specs.declared.event.Block.the-variants.{Rifsc, Iac, Risaf}
 use Rattle.worked.specs.Example.{Line, gives, prints, reads, writes, asks}

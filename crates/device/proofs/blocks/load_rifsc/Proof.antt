@@ -12,7 +12,7 @@ returns c =
     let b = c .before .before .before .before in
     let m = b .before .before .before .args .state .now in
     simp (
-      c .thirteen .ensures,
+      c .attr .ensures,
       c .before .before .six3 .ensures,
       c .before .before .before .six2 .ensures,
       b .six .ensures,

@@ -1,22 +1,15 @@
 use borrow.Author.Needs.{needs}
-use mathlib.Core.Path.{sym, _∙_}
-use Prim.Native.Nat.{_≤_}
+use mathlib.Core.Path.{_∙_}
 use native.Mathlib.Nat.{add-sub-cancel-left}
-use native.Mathlib.Omega.{arith}
-use lib.ListN.{length, take, drop, replicate, length-drop}
-use lib.Seq.{length-take-le}
-use Rattle.device.proofs.Parts.{paste-all}
+use Rattle.words.specs.Six.{bitWords}
+use Rattle.device.proofs.Parts.{read-words}
 use Rattle.device.proofs.blocks.six.Statement.{statement}
 use Rattle.device.proofs.blocks.six.Tie as tie
 
 returns : tie.Need-returns
 returns c =
     let s = c .before .before .before .before .before in
-    let m = s .args .state .now in
-    let at = s .args .at in
-    let l : 6 ≤ length (drop at m) = simp length-drop (omega (arith, s .pre)) in
-    c .before .put .ensures
-    ∙ rw add-sub-cancel-left (paste-all (replicate 6 0) (take 6 (drop at m)) (sym (length-take-le 6 (drop at m) l)))
+    c .before .put .ensures ∙ rw add-sub-cancel-left (read-words bitWords (s .args .state .now) (s .args .at) (s .pre))
 
 pub six-spec : {M : Type 1} → statement M
 six-spec =

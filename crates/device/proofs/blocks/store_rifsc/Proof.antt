@@ -1,6 +1,5 @@
 use borrow.Author.Needs.{needs}
 use mathlib.Core.Path.{refl}
-use native.Mathlib.Omega.{arith}
 use lib.Dec.{lit<}
 use lib.ListN.{length-set}
 use Rattle.device.specs.Layout.{crPart, seccfgrPart, privcfgrPart, rcfglockrPart, rimccrPart, attrPart}
@@ -18,7 +17,7 @@ returns : tie.Need-returns
 returns c =
     let s = c .before .before .before .before .before .before .before .before .before .before .before .before .before .before .before .before .before .before .before .before .before in
     let r = s .args .r in
-    let d = c .before .before .store-thirteen .ensures in
+    let d = c .before .before .store-attr .ensures in
     let p = c .before .before .before .before .before .before in
     let x = p .store-six3 .ensures in
     let q = p .before .before .before .before in

@@ -1,5 +1,4 @@
 use borrow.Author.Needs.{needs}
-use mathlib.Core.Path.{ap, _∙_}
 use Rattle.device.specs.Layout.{stateOf}
 use Rattle.device.proofs.PeripheralSteps.{peripheral-answer, peripheral-refused, peripheral-kept}
 use Rattle.device.proofs.peripherals.access_peripheral.Statement.{statement}

@@ -1,5 +1,4 @@
 use borrow.Author.Needs.{needs}
-use Rattle.device.specs.Step.{peripheralChecks}
 use Rattle.device.proofs.peripherals.checks_of.Statement.{statement}
 use Rattle.device.proofs.peripherals.checks_of.Tie as tie
 

@@ -1,7 +1,5 @@
 use borrow.Author.Needs.{needs}
-use mathlib.Core.Path.{_≡_, refl, sym, ap, _∙_}
-use Rattle.iac.specs.Port.{stepped}
-use Rattle.iac.specs.declared.contents.Iac.{Iac}
+use mathlib.Core.Path.{refl, sym, ap, _∙_}
 use Rattle.device.specs.Layout.{stateOf}
 use Rattle.device.specs.State.{withIac}
 use Rattle.device.specs.Step.{iacFlag, Outcome}

@@ -1,7 +1,5 @@
 use borrow.Author.Needs.{needs}
-use mathlib.Core.Path.{_≡_, refl, sym, ap, _∙_}
-use Rattle.rifsc.specs.Port.{stepped}
-use Rattle.rifsc.specs.declared.contents.Rifsc.{Rifsc}
+use mathlib.Core.Path.{refl, sym, ap, _∙_}
 use Rattle.device.specs.Layout.{stateOf}
 use Rattle.device.specs.State.{withRifsc}
 use Rattle.device.specs.Step.{rifscFlag, Outcome}

@@ -4,10 +4,10 @@ use Prim.Native.Nat.{_≤_, _-_}
 use native.Mathlib.Omega.{arith}
 use borrow.Author.Needs.{needs}
 use lib.ListN.{length, drop, replicate}
-use Rattle.risaf.specs.Contents.{guardSize, guardWords, guardFrom, reset}
+use Rattle.risaf.specs.Contents.{guardWords, reset}
 use Rattle.risaf.specs.Guards.{guardCount}
 use Rattle.device.specs.Layout.{stateOf, stateWords}
-use Rattle.device.specs.State.{State, withGuards, withGuardAt}
+use Rattle.device.specs.State.{State, withGuards}
 use Rattle.device.proofs.StateLayout.{guards-count, guards-more, reset-is}
 use Rattle.device.proofs.reset.reset.Statement.{statement}
 use Rattle.device.proofs.reset.reset.Tie as tie

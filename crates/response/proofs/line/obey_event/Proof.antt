@@ -1,6 +1,5 @@
 -- `response::line::obey_event` meets its contract: what `apply` gives, and its answer printed.
 use borrow.Author.Needs.{needs}
-use mathlib.Core.Path.{sym}
 use Rattle.response.proofs.Written.{same-answer}
 use Rattle.response.proofs.line.obey_event.Statement.{statement}
 use Rattle.response.proofs.line.obey_event.Tie as tie

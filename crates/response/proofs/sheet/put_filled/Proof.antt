@@ -17,7 +17,7 @@ put-sheet-requires c κs =
     let f = c .before .before .before .before .before .before .before .fill in (
       a .pre .0,
       made-few (a .args .state .now) (a .args .lent .now) (a .args .guard .0) (a .pre .1) (f .ensures .0) (c .before .before .before .before .number .ensures)
-      (c .before .before .before .if1 .left) (f .ensures .1 .1) (f .ensures .1 .0) (c .before .used-part .ensures),
+          (c .before .before .before .if1 .left) (f .ensures .1 .1) (f .ensures .1 .0) (c .before .used-part .ensures),
     )
 
 returns-2 : tie.Need-returns-2

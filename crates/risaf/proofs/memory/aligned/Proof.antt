@@ -1,5 +1,4 @@
 -- `risaf::memory::aligned` meets its contract: a width that there is, and that is neither 2 nor 4, is 1.
-use borrow.Author.Needs.{needs}
 use Rattle.risaf.proofs.MemoryAnswer.{other-width}
 use Rattle.risaf.proofs.memory.aligned.Statement.{statement}
 use Rattle.risaf.proofs.memory.aligned.Tie as tie

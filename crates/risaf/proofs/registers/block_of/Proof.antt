@@ -1,4 +1,3 @@
-use borrow.Author.Needs.{needs}
 use native.Mathlib.Omega.{arith}
 use Rattle.risaf.proofs.RegisterMap.{block-is, no-block}
 use Rattle.risaf.proofs.registers.block_of.Statement.{statement}

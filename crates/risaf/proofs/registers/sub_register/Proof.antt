@@ -1,4 +1,3 @@
-use borrow.Author.Needs.{needs}
 use mathlib.Core.Path.{sym, ap}
 use Rattle.risaf.specs.Registers.{subRegister}
 use Rattle.risaf.proofs.RegisterMap.{sub-other}

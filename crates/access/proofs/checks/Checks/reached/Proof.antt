@@ -1,5 +1,4 @@
 -- `access::checks::Checks::reached` meets its contract: the first test that fails, with those before it passed.
-use borrow.Author.Needs.{needs}
 use borrow.Author.Tests.{not-true, not-false}
 use Rattle.access.specs.Checks.{reached}
 use Rattle.access.proofs.checks.Checks.reached.Statement.{statement}

@@ -10,4 +10,4 @@ returns c = search needs
 pub exists-spec : {M : Type 1} → statement M
 exists-spec =
     tie.close
-    (tie.spec returns)
+    (tie.spec (λ c. search needs) returns)
