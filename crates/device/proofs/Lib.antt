@@ -1,5 +1,6 @@
 pub mod Applies
 pub mod BlockSteps
+pub mod ControllerWords
 pub mod GuardSteps
 pub mod LockWrites
 pub mod Locks

@@ -1,6 +1,7 @@
 // The whole device: its state in the caller's memory, and what an event does to it.
 pub mod applied;
 mod blocks;
+mod controller;
 pub mod event;
 mod guards;
 pub mod layout;

@@ -1,8 +1,8 @@
 use crate::blocks::load_iac;
-use crate::blocks::load_rifsc;
 use crate::blocks::raise;
 use crate::blocks::store_iac;
-use crate::blocks::store_rifsc;
+use crate::controller::load_seen;
+use crate::controller::store_register;
 use crate::guards::load_port;
 use crate::guards::store_word;
 use access::Answer;
@@ -21,19 +21,21 @@ const RIFSC_FLAG: Flag = Flag(158);
 
 const IAC_FLAG: Flag = Flag(138);
 
-// A register access to the controller.
+// A register access to the controller: what it needs is taken by value, and one word is stored.
 pub(crate) fn access_rifsc(state: &mut [u32], q: Request) -> Answer
     requires { ⌜ length (now state) ≡ stateWords ⌝ }
     ensures answer { λ r. ⌜ r ≡ registerStep Rifsc q (stateOf (now (state .entry))) .answer ⌝ }
     ensures next { λ _. ⌜ stateOf (now (state .exit)) ≡ registerStep Rifsc q (stateOf (now (state .entry))) .next ⌝ }
 {
-    let stepped = load_rifsc(state).access(q);
-    let answer = stepped.answer;
-    let next = stepped.next;
+    let reg = rifsc::register_at(q.offset);
+    let row = reg.row();
+    let accessed = load_seen(state, reg, row).access(reg, row, q);
+    let answer = accessed.answer;
+    let next = accessed.next;
     match answer {
         Answer::Done(_) => {
             if q.write {
-                store_rifsc(state, next);
+                store_register(state, reg, next.word);
             }
         }
         Answer::Refused(_) => raise(state, RIFSC_FLAG),

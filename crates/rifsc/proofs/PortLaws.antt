@@ -8,7 +8,7 @@ use Rattle.words.proofs.Laws.{bit-less, less-lt, word-ext}
 use Rattle.words.proofs.Masks.{united-masked}
 use Rattle.rifsc.specs.Registers.{ppsr}
 use Rattle.rifsc.specs.Port.{attrBits, takes}
-use Rattle.rifsc.specs.declared.contents.Seen.{Seen}
+use Rattle.rifsc.specs.declared.port.Seen.{Seen}
 use Rattle.rifsc.specs.declared.registers.Register.the-variants.{Privcfgr, Rimccr, Attr}
 
 -- of a PRIV write

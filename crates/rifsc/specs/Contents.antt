@@ -5,15 +5,14 @@ use lib.ListN.{getD, set, replicate}
 use Rattle.words.specs.Bit.{bit}
 use Rattle.words.specs.Six.{bitWords}
 use Rattle.rifsc.specs.Masters.{masters}
-use Rattle.rifsc.specs.Registers.{ppsr}
 use Rattle.rifsc.specs.declared.registers.Lock.{Lock}
 use Rattle.rifsc.specs.declared.registers.Lock.the-variants.{Glock, RimcLock, Never}
 use Rattle.rifsc.specs.declared.registers.Register.{Register}
 use Rattle.rifsc.specs.declared.registers.Register.the-variants.{Cr, Seccfgr, Privcfgr, Rcfglockr, Rimccr, Attr, Ppsr, Unknown}
 use Rattle.rifsc.specs.declared.contents.Rifsc.{Rifsc}
-use Rattle.rifsc.specs.declared.contents.Seen.{Seen}
+use Rattle.rifsc.specs.declared.port.Seen.{Seen}
 
--- the word stored for a register; PPSR is constant
+-- the word stored for a register; for PPSR, which is constant, none is
 unfoldable pub stored : Rifsc → Register → ℕ
 stored r Cr = r .cr
 stored r (Seccfgr x) = getD (r .seccfgr) x 0
@@ -21,7 +20,7 @@ stored r (Privcfgr x) = getD (r .privcfgr) x 0
 stored r (Rcfglockr x) = getD (r .rcfglockr) x 0
 stored r Rimccr = r .rimccr
 stored r (Attr m) = getD (r .attr) m 0
-stored r (Ppsr x) = ppsr x
+stored r (Ppsr x) = 0
 stored r Unknown = 0
 
 -- the controller with another word stored for a register

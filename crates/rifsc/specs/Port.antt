@@ -16,8 +16,8 @@ use Rattle.rifsc.specs.declared.registers.Row.{Row}
 use Rattle.rifsc.specs.declared.registers.Register.{Register}
 use Rattle.rifsc.specs.declared.registers.Register.the-variants.{Cr, Seccfgr, Privcfgr, Rcfglockr, Rimccr, Attr, Ppsr, Unknown}
 use Rattle.rifsc.specs.declared.contents.Rifsc.{Rifsc}
-use Rattle.rifsc.specs.declared.contents.Seen.{Seen}
-use Rattle.rifsc.specs.declared.contents.Stepped.{Stepped}
+use Rattle.rifsc.specs.declared.port.Seen.{Seen}
+use Rattle.rifsc.specs.declared.port.Accessed.{Accessed}
 
 -- ---- a read gives the named bits, and those that read 1 whatever is stored
 
@@ -64,10 +64,27 @@ checksOf row v q =
 unfoldable pub answerOf : Row → Seen → Request → Answer
 answerOf row v q = answered (checksOf row v q) (gives q (readOf row (v .word)))
 
+-- ---- an access to what it needs of the controller, by value
+
+abbrev pub withSeenWord : Seen → ℕ → Seen
+withSeenWord v w = record { locked = v .locked; rlock = v .rlock; sec = v .sec; word = w }
+
+unfoldable pub accessed : Register → Row → Seen → Request → Accessed
+accessed reg row v q =
+    let a = answerOf row v q in
+    record {
+      next = left a v (cond (q .write) (withSeenWord v (wordWritten reg v (q .value) (q .secure))) v) v;
+      answer = a;
+    }
+
 -- ---- what an access leaves; a refusal leaves the controller as it was, and its flag is the IAC's
 
 unfoldable pub written : Rifsc → Register → Seen → Request → Rifsc
 written r reg v q = cond (q .write) (withStored r reg (wordWritten reg v (q .value) (q .secure))) r
+
+pub record Stepped : Type 0 where
+  pub next : Rifsc
+  pub answer : Answer
 
 unfoldable pub stepped : Rifsc → Request → Stepped
 stepped r q =

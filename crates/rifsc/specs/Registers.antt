@@ -45,6 +45,6 @@ rowOf (Rcfglockr x) = row true Glock x 0 (ppsr x)
 rowOf Rimccr = row true RimcLock 0 0x0000_0010 0x0000_0701
 rowOf (Attr m) = row true RimcLock m 0 0x0000_0370
 rowOf (Ppsr x) =
-    record { known = true; writable = false; secure = true; lock = Never; index = x; fixed = 0; named = 0xffff_ffff }
+    record { known = true; writable = false; secure = true; lock = Never; index = x; fixed = ppsr x; named = 0 }
 rowOf Unknown =
     record { known = false; writable = false; secure = true; lock = Never; index = 0; fixed = 0; named = 0 }

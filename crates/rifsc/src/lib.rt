@@ -2,12 +2,15 @@
 pub mod contents;
 pub mod masters;
 pub mod peripherals;
-mod port;
+pub mod port;
 pub mod registers;
 
 pub use contents::Rifsc;
-pub use contents::Stepped;
 pub use masters::MASTERS;
 pub use masters::MasterNumber;
 pub use peripherals::PeripheralNumber;
+pub use port::Seen;
+pub use registers::Lock;
 pub use registers::Register;
+pub use registers::Row;
+pub use registers::register_at;

@@ -1,7 +1,4 @@
 use crate::Register;
-use crate::Rifsc;
-use crate::Stepped;
-use crate::contents::Seen;
 use crate::masters::MCID_AT;
 use crate::masters::MCID_WIDE;
 use crate::registers::ATTR_FLAGS;
@@ -10,7 +7,6 @@ use crate::registers::DAPCID;
 use crate::registers::GLOCK;
 use crate::registers::Row;
 use crate::registers::ppsr;
-use crate::registers::register_at;
 use access::Answer;
 use access::Checks;
 use access::DEBUGGER;
@@ -19,7 +15,24 @@ ghost use mathlib.Core.Path.{_≡_};
 ghost use mathlib.Core.Bool.{cond};
 ghost use lib.Dec.{eqb};
 ghost use Rattle.words.specs.Bit.{field, less, word};
-ghost use Rattle.rifsc.specs.Port.{answerOf, attrBits, stepped, takes, written};
+ghost use Rattle.rifsc.specs.Port.{accessed, answerOf, attrBits, takes};
+
+// What an access to a register needs of the controller, by value.
+pub struct Seen {
+    // The register is locked whole.
+    pub locked: bool,
+    // RCFGLOCKR and SECCFGR of the register's index.
+    pub rlock: u32,
+    pub sec: u32,
+    // The register's own word.
+    pub word: u32,
+}
+
+// What an access leaves, and the answer.
+pub struct Accessed {
+    pub next: Seen,
+    pub answer: Answer,
+}
 
 // Of some bits those that a write may change: those whose SEC is 1 only if it is secure.
 fn unless_sec(bits: u32, sec: u32, secure: bool) -> u32
@@ -75,30 +88,18 @@ fn answer(row: Row, v: Seen, q: Request) -> Answer
     checks.answer(q.gives(read))
 }
 
-impl Rifsc {
-    // What an access leaves where it is answered with done.
-    fn written(mut self, reg: Register, v: Seen, q: Request) -> Self
-        ensures { λ r. ⌜ r ≡ written self reg v q ⌝ }
+impl Seen {
+    // An access to a register with this row. A write that is done leaves another word.
+    pub fn access(mut self, reg: Register, row: Row, q: Request) -> Accessed
+        ensures { λ r. ⌜ r ≡ accessed reg row self q ⌝ }
     {
-        if q.write {
-            let word = words::merge(v.word, q.value, taken(reg, v, q.value, q.secure));
-            self = self.with_stored(reg, word);
-        }
-        self
-    }
-
-    // A register access. A refusal leaves the controller as it was; its flag is the IAC's.
-    pub fn access(mut self, q: Request) -> Stepped
-        ensures { λ r. ⌜ r ≡ stepped self q ⌝ }
-    {
-        let reg = register_at(q.offset);
-        let row = reg.row();
-        let lock = row.lock;
-        let v = self.seen(reg, lock, row.index);
-        let answer = answer(row, v, q);
+        let answer = answer(row, self, q);
         if let Answer::Done(_) = answer {
-            self = self.written(reg, v, q);
+            if q.write {
+                let word = words::merge(self.word, q.value, taken(reg, self, q.value, q.secure));
+                self.word = word;
+            }
         }
-        Stepped { next: self, answer }
+        Accessed { next: self, answer }
     }
 }

@@ -14,24 +14,24 @@ pub enum Register {
 }
 
 // What stops every write to a register: GLOCK of CR, GLOCK of RIMC_CR, or nothing.
-pub(crate) enum Lock {
+pub enum Lock {
     Glock,
     RimcLock,
     Never,
 }
 
 // A register's row of the table: all that is fixed of it.
-pub(crate) struct Row {
-    pub(crate) known: bool,
+pub struct Row {
+    pub known: bool,
     // Not read-only.
-    pub(crate) writable: bool,
+    pub writable: bool,
     // A write needs secure; every write needs privileged.
-    pub(crate) secure: bool,
-    pub(crate) lock: Lock,
-    pub(crate) index: usize,
+    pub secure: bool,
+    pub lock: Lock,
+    pub index: usize,
     // The bits that read 1 whatever is stored, and the named bits.
-    pub(crate) fixed: u32,
-    pub(crate) named: u32,
+    pub fixed: u32,
+    pub named: u32,
 }
 
 // GLOCK, of CR and of RIMC_CR; DAPCID and the constant of RIMC_CR; what ATTR has beside MCID, and with it.
@@ -63,7 +63,7 @@ pub(crate) fn ppsr(x: usize) -> u32
 }
 
 // The register at an offset that is a multiple of 4.
-pub(crate) fn register_at(offset: u32) -> Register
+pub fn register_at(offset: u32) -> Register
     ensures { λ r. ⌜ r ≡ registerAt offset ⌝ }
 {
     match offset {
@@ -97,7 +97,7 @@ impl Row {
 
 impl Register {
     // The table of registers. In the order of the columns: a write needs secure, lock, index, bits that read 1, named bits.
-    pub(crate) fn row(self) -> Row
+    pub fn row(self) -> Row
         ensures { λ r. ⌜ r ≡ rowOf self ⌝ }
     {
         match self {
@@ -113,8 +113,8 @@ impl Register {
                 secure: true,
                 lock: Lock::Never,
                 index: x,
-                fixed: 0,
-                named: 0xffff_ffff,
+                fixed: ppsr(x),
+                named: 0,
             },
             Register::Unknown => Row {
                 known: false,

@@ -29,7 +29,7 @@ returns-6 c = simp (c .of6 .ensures, c .before .known-told4 .given .1, c .before
 
 returns-7 : tie.Need-returns-7
 unfolding rowOf
-returns-7 c = simp (c .known-told5 .given .1, c .before .self5 .given .1, c .before .before .match .keys7)
+returns-7 c = simp (c .ppsr4 .ensures, c .before .known-told5 .given .1, c .before .before .self5 .given .1, c .before .before .before .match .keys7)
 
 returns-8 : tie.Need-returns-8
 unfolding rowOf
@@ -41,5 +41,5 @@ row-spec =
     (tie.spec (λ c. search needs) (λ c κs. search needs) (λ c. search needs) (λ c κs. search needs)
     (λ c κs. search needs) (λ c. search needs) (λ c κs. search needs) (λ c κs. search needs) (λ c. search needs)
     (λ c κs. search needs) (λ c κs. search needs) (λ c. search needs) (λ c κs. search needs) (λ c. search needs)
-    (λ c κs. search needs) (λ c. search needs) (λ c. search needs) returns returns-2 returns-3 returns-4 returns-5
+    (λ c κs. search needs) (λ c. search needs) (λ c κs. search needs) (λ c. search needs) returns returns-2 returns-3 returns-4 returns-5
     returns-6 returns-7 returns-8)
