@@ -1,9 +1,9 @@
 pub mod Applies
 pub mod BlockSteps
-pub mod ControllerWords
 pub mod GuardSteps
 pub mod LockWrites
 pub mod Locks
+pub mod PartWords
 pub mod Parts
 pub mod PeripheralSteps
 pub mod Refusals

@@ -5,6 +5,8 @@ use crate::layout::PRIVCFGR;
 use crate::layout::RCFGLOCKR;
 use crate::layout::RIMC_CR;
 use crate::layout::SECCFGR;
+use crate::part_words::store_in;
+use crate::part_words::word_in;
 use rifsc::Lock;
 use rifsc::MASTERS;
 use rifsc::Register;
@@ -12,31 +14,10 @@ use rifsc::Row;
 use rifsc::Seen;
 use words::BIT_WORDS;
 ghost use mathlib.Core.Path.{_≡_};
-ghost use mathlib.Core.Bool.{cond};
-ghost use Prim.Native.Nat.{_+_, _≤_};
-ghost use lib.Dec.{ltb};
-ghost use lib.ListN.{drop, getD, length, set, take};
+ghost use lib.ListN.{length};
 ghost use Rattle.rifsc.specs.Contents.{isLocked, seen, stored, withStored};
 ghost use Rattle.device.specs.Layout.{stateOf, stateWords};
 ghost use Rattle.device.specs.State.{withRifsc};
-
-// Word x of the n words from at on; past the last there is none.
-fn word_in(state: &[u32], at: usize, n: usize, x: usize) -> u32
-    requires { ⌜ at + n ≤ length (now state) ⌝ }
-    ensures { λ r. ⌜ r ≡ getD (take n (drop at (now (state .entry)))) x 0 ⌝ }
-{
-    if x < n { state[at + x] } else { 0 }
-}
-
-// Stores word x of the n words from at on; past the last nothing.
-fn store_in(state: &mut [u32], at: usize, n: usize, x: usize, v: u32)
-    requires { ⌜ at + n ≤ length (now state) ⌝ }
-    ensures { λ _. ⌜ now (state .exit) ≡ cond (ltb x n) (set (now (state .entry)) (at + x) v) (now (state .entry)) ⌝ }
-{
-    if x < n {
-        state[at + x] = v;
-    }
-}
 
 // The word stored for a register.
 fn stored(state: &[u32], reg: Register) -> u32

@@ -1,13 +1,14 @@
-use crate::blocks::load_iac;
 use crate::blocks::raise;
-use crate::blocks::store_iac;
 use crate::controller::load_seen;
 use crate::controller::store_register;
+use crate::flags::load_flags;
+use crate::flags::store_flags;
 use crate::guards::load_port;
 use crate::guards::store_word;
 use access::Answer;
 use access::Flag;
 use access::Request;
+use iac::Seen;
 use risaf::GuardNumber;
 use risaf::IASR;
 ghost use mathlib.Core.Path.{_≡_};
@@ -50,13 +51,17 @@ pub(crate) fn access_iac(state: &mut [u32], q: Request) -> Answer
     ensures answer { λ r. ⌜ r ≡ registerStep Iac q (stateOf (now (state .entry))) .answer ⌝ }
     ensures next { λ _. ⌜ stateOf (now (state .exit)) ≡ registerStep Iac q (stateOf (now (state .entry))) .next ⌝ }
 {
-    let stepped = load_iac(state).access(q);
-    let answer = stepped.answer;
-    let next = stepped.next;
+    let reg = iac::register_at(q.offset);
+    let seen = Seen {
+        word: load_flags(state, reg),
+    };
+    let accessed = seen.access(reg, reg.row(), q);
+    let answer = accessed.answer;
+    let next = accessed.next;
     match answer {
         Answer::Done(_) => {
             if q.write {
-                store_iac(state, next);
+                store_flags(state, reg, next.word);
             }
         }
         Answer::Refused(_) => raise(state, IAC_FLAG),

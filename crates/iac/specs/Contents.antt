@@ -2,17 +2,16 @@
 use Prim.Native.Nat.{ℕ}
 use lib.ListN.{getD, set, replicate}
 use Rattle.words.specs.Six.{bitWords}
-use Rattle.iac.specs.Registers.{iisr}
 use Rattle.iac.specs.declared.registers.Register.{Register}
 use Rattle.iac.specs.declared.registers.Register.the-variants.{Ier, Isr, Icr, Iisr, Unknown}
 use Rattle.iac.specs.declared.contents.Iac.{Iac}
 
--- the word stored for a register: for ICR the flags that it clears; IISR is constant
+-- the word stored for a register: for ICR the flags that it clears; for IISR, which is constant, none is
 unfoldable pub stored : Iac → Register → ℕ
 stored s (Ier x) = getD (s .ier) x 0
 stored s (Isr x) = getD (s .isr) x 0
 stored s (Icr x) = getD (s .isr) x 0
-stored s (Iisr x) = iisr x
+stored s (Iisr x) = 0
 stored s Unknown = 0
 
 abbrev pub withIsr : Iac → ℕ → ℕ → Iac

@@ -2,7 +2,7 @@
 use mathlib.Core.Bool.{true, not, _&&_, _||_, cond}
 use Prim.Native.Nat.{ℕ, _%_}
 use lib.Dec.{eqb}
-use Rattle.words.specs.Bit.{bit, word, masked, merged}
+use Rattle.words.specs.Bit.{bit, word, masked, merged, united}
 use Rattle.access.specs.Answer.{left}
 use Rattle.access.specs.Checks.{answered}
 use Rattle.access.specs.Request.{gives}
@@ -15,11 +15,12 @@ use Rattle.iac.specs.Contents.{stored, withStored}
 use Rattle.iac.specs.declared.registers.Register.{Register}
 use Rattle.iac.specs.declared.registers.Register.the-variants.{Ier, Isr, Icr, Iisr, Unknown}
 use Rattle.iac.specs.declared.contents.Iac.{Iac}
-use Rattle.iac.specs.declared.contents.Stepped.{Stepped}
+use Rattle.iac.specs.declared.port.Accessed.{Accessed}
+use Rattle.iac.specs.declared.port.Seen.{Seen}
 
--- a read gives the named bits
+-- a read gives the named bits, and those that read 1 whatever is stored
 unfoldable pub readOf : Row → ℕ → ℕ
-readOf row old = masked 32 old (row .named)
+readOf row old = united 32 (masked 32 old (row .named)) (row .fixed)
 
 -- the word that a write leaves; IER bits with no IISR bit take no write, and writing 1 to ICR clears the flag
 unfoldable pub wordWritten : Register → ℕ → ℕ → ℕ
@@ -46,9 +47,19 @@ checksOf row q =
 unfoldable pub answerOf : Row → ℕ → Request → Answer
 answerOf row old q = answered (checksOf row q) (gives q (readOf row old))
 
+-- an access to what it needs of the IAC, by value
+unfoldable pub accessed : Register → Row → Seen → Request → Accessed
+accessed reg row v q =
+    let a = answerOf row (v .word) q in
+    record { next = left a v (cond (q .write) (record { word = wordWritten reg (v .word) (q .value) }) v) v; answer = a }
+
 -- what an access leaves; a refusal leaves the registers as they were, and its flag is raised beside (Flags)
 unfoldable pub written : Iac → Register → ℕ → Request → Iac
 written s reg old q = cond (q .write) (withStored s reg (wordWritten reg old (q .value))) s
+
+pub record Stepped : Type 0 where
+  pub next : Iac
+  pub answer : Answer
 
 unfoldable pub stepped : Iac → Request → Stepped
 stepped s q =

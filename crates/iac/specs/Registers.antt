@@ -24,14 +24,15 @@ iisrs = 0xffff_ff7f ∷ 0x77ff_ffff ∷ 0x77df_f03b ∷ 0x0000_05ff ∷ 0x7bef_f
 unfoldable pub iisr : ℕ → ℕ
 iisr x = getD iisrs x 0
 
-abbrev pub row : Bool → Bool → Bool → Bool → ℕ → Row
-row known readable writable guarded named =
-    record { known = known; readable = readable; writable = writable; guarded = guarded; named = named }
+abbrev pub row : Bool → Bool → Bool → Bool → ℕ → ℕ → Row
+row known readable writable guarded fixed named =
+    record { known = known; readable = readable; writable = writable; guarded = guarded; fixed = fixed; named = named }
 
--- The table of registers: is it there, not write-only, not read-only, does it need secure and privileged (to read also), the named bits.
+-- The table of registers: is it there, not write-only, not read-only, does it need secure and privileged (to read also), the
+-- bits that read 1 whatever is stored, the named bits.
 unfoldable pub rowOf : Register → Row
-rowOf (Ier x) = row true true true true (iisr x)
-rowOf (Isr x) = row true true false true (iisr x)
-rowOf (Icr x) = row true false true true (iisr x)
-rowOf (Iisr x) = row true true false false 0xffff_ffff
-rowOf Unknown = row false false false true 0
+rowOf (Ier x) = row true true true true 0 (iisr x)
+rowOf (Isr x) = row true true false true 0 (iisr x)
+rowOf (Icr x) = row true false true true 0 (iisr x)
+rowOf (Iisr x) = row true true false false (iisr x) 0
+rowOf Unknown = row false false false true 0 0

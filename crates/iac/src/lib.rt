@@ -1,9 +1,11 @@
 // The illegal access controller IAC: flags, their enables, and the interrupt line.
 pub mod contents;
 mod flags;
-mod port;
+pub mod port;
 pub mod registers;
 
 pub use contents::Iac;
-pub use contents::Stepped;
+pub use port::Seen;
 pub use registers::Register;
+pub use registers::Row;
+pub use registers::register_at;

@@ -1,14 +1,22 @@
-use crate::Iac;
 use crate::Register;
-use crate::Stepped;
 use crate::registers::Row;
 use crate::registers::iisr;
-use crate::registers::register_at;
 use access::Answer;
 use access::Checks;
 use access::Request;
 ghost use mathlib.Core.Path.{_≡_};
-ghost use Rattle.iac.specs.Port.{answerOf, stepped, wordWritten, written};
+ghost use Rattle.iac.specs.Port.{accessed, answerOf, wordWritten};
+
+// What an access to a register needs of the IAC, by value: the register's own word, for ICR the flags that it clears.
+pub struct Seen {
+    pub word: u32,
+}
+
+// What an access leaves, and the answer.
+pub struct Accessed {
+    pub next: Seen,
+    pub answer: Answer,
+}
 
 // The word that a write leaves. IER bits with no IISR bit take no write; writing 1 to ICR clears the flag.
 fn word_written(reg: Register, old: u32, value: u32) -> u32
@@ -37,31 +45,22 @@ fn answer(row: Row, old: u32, q: Request) -> Answer
         direction: (q.write & row.writable) | (!q.write & row.readable),
         unlocked: true,
     };
-    checks.answer(q.gives(words::masked(old, row.named)))
+    let read = words::united(words::masked(old, row.named), row.fixed);
+    checks.answer(q.gives(read))
 }
 
-impl Iac {
-    // What an access leaves where it is answered with done.
-    fn written(mut self, reg: Register, old: u32, q: Request) -> Self
-        ensures { λ r. ⌜ r ≡ written self reg old q ⌝ }
+impl Seen {
+    // An access to a register with this row. A write that is done leaves another word.
+    pub fn access(mut self, reg: Register, row: Row, q: Request) -> Accessed
+        ensures { λ r. ⌜ r ≡ accessed reg row self q ⌝ }
     {
-        if q.write {
-            let word = word_written(reg, old, q.value);
-            self = self.with_stored(reg, word);
-        }
-        self
-    }
-
-    // A register access. A refusal leaves the registers as they were; its flag is raised beside.
-    pub fn access(mut self, q: Request) -> Stepped
-        ensures { λ r. ⌜ r ≡ stepped self q ⌝ }
-    {
-        let reg = register_at(q.offset);
-        let old = self.stored(reg);
-        let answer = answer(reg.row(), old, q);
+        let answer = answer(row, self.word, q);
         if let Answer::Done(_) = answer {
-            self = self.written(reg, old, q);
+            if q.write {
+                let word = word_written(reg, self.word, q.value);
+                self.word = word;
+            }
         }
-        Stepped { next: self, answer }
+        Accessed { next: self, answer }
     }
 }

@@ -11,16 +11,17 @@ pub enum Register {
 }
 
 // A register's row of the table: all that is fixed of it.
-pub(crate) struct Row {
-    pub(crate) known: bool,
+pub struct Row {
+    pub known: bool,
     // Not write-only.
-    pub(crate) readable: bool,
+    pub readable: bool,
     // Not read-only.
-    pub(crate) writable: bool,
+    pub writable: bool,
     // Needs secure and privileged, to read also.
-    pub(crate) guarded: bool,
-    // The named bits.
-    pub(crate) named: u32,
+    pub guarded: bool,
+    // The bits that read 1 whatever is stored, and the named bits.
+    pub fixed: u32,
+    pub named: u32,
 }
 
 // IISR0 to IISR5.
@@ -41,7 +42,7 @@ pub(crate) fn iisr(x: usize) -> u32
 }
 
 // The register at an offset that is a multiple of 4.
-pub(crate) fn register_at(offset: u32) -> Register
+pub fn register_at(offset: u32) -> Register
     ensures { λ r. ⌜ r ≡ registerAt offset ⌝ }
 {
     match offset {
@@ -54,30 +55,38 @@ pub(crate) fn register_at(offset: u32) -> Register
 }
 
 impl Row {
-    fn of(known: bool, readable: bool, writable: bool, guarded: bool, named: u32) -> Self
-        ensures { λ r. ⌜ r ≡ row known readable writable guarded named ⌝ }
+    fn of(
+        known: bool,
+        readable: bool,
+        writable: bool,
+        guarded: bool,
+        fixed: u32,
+        named: u32,
+    ) -> Self
+        ensures { λ r. ⌜ r ≡ row known readable writable guarded fixed named ⌝ }
     {
         Row {
             known,
             readable,
             writable,
             guarded,
+            fixed,
             named,
         }
     }
 }
 
 impl Register {
-    // The table of registers. In the order of the columns: known, readable, writable, guarded, named bits.
-    pub(crate) fn row(self) -> Row
+    // The table of registers. In the order of the columns: known, readable, writable, guarded, bits that read 1, named bits.
+    pub fn row(self) -> Row
         ensures { λ r. ⌜ r ≡ rowOf self ⌝ }
     {
         match self {
-            Register::Ier(x) => Row::of(true, true, true, true, iisr(x)),
-            Register::Isr(x) => Row::of(true, true, false, true, iisr(x)),
-            Register::Icr(x) => Row::of(true, false, true, true, iisr(x)),
-            Register::Iisr(_) => Row::of(true, true, false, false, 0xffff_ffff),
-            Register::Unknown => Row::of(false, false, false, true, 0),
+            Register::Ier(x) => Row::of(true, true, true, true, 0, iisr(x)),
+            Register::Isr(x) => Row::of(true, true, false, true, 0, iisr(x)),
+            Register::Icr(x) => Row::of(true, false, true, true, 0, iisr(x)),
+            Register::Iisr(x) => Row::of(true, true, false, false, iisr(x), 0),
+            Register::Unknown => Row::of(false, false, false, true, 0, 0),
         }
     }
 }

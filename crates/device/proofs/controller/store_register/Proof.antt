@@ -5,7 +5,7 @@ use lib.ListN.{length-set}
 use Rattle.rifsc.specs.Contents.{withStored}
 use Rattle.device.specs.Layout.{crPart, seccfgrPart, privcfgrPart, rcfglockrPart, rimccrPart, attrPart}
 use Rattle.device.proofs.StateLayout.{heads-none, heads-word}
-use Rattle.device.proofs.ControllerWords.{heads-set, seccfgr-stored, privcfgr-stored, rcfglockr-stored, attr-stored, cr-stored, rimccr-stored}
+use Rattle.device.proofs.PartWords.{heads-set, seccfgr-stored, privcfgr-stored, rcfglockr-stored, attr-stored, cr-stored, rimccr-stored}
 use Rattle.device.proofs.controller.store_register.Statement.{statement}
 use Rattle.device.proofs.controller.store_register.Tie as tie
 

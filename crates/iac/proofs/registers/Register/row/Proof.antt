@@ -17,16 +17,16 @@ returns-3 c = simp (c .of3 .ensures, c .before .iisr3 .ensures, c .before .befor
 
 returns-4 : tie.Need-returns-4
 unfolding rowOf
-returns-4 c = simp (c .of4 .ensures, c .before .enum-told .given .1, c .before .before .match .keys4)
+returns-4 c = simp (c .of4 .ensures, c .before .iisr4 .ensures, c .before .before .known-told4 .given .1, c .before .before .before .self4 .given .1, c .before .before .before .before .match .keys4)
 
 returns-5 : tie.Need-returns-5
 unfolding rowOf
-returns-5 c = simp (c .of5 .ensures, c .before .enum-told2 .given .1, c .before .before .match .keys5)
+returns-5 c = simp (c .of5 .ensures, c .before .enum-told .given .1, c .before .before .match .keys5)
 
 pub row-spec : {M : Type 1} → statement M
 row-spec =
     tie.close
     (tie.spec (λ c. search needs) (λ c κs. search needs) (λ c κs. search needs) (λ c. search needs)
     (λ c κs. search needs) (λ c κs. search needs) (λ c. search needs) (λ c κs. search needs) (λ c κs. search needs)
-    (λ c. search needs) (λ c κs. search needs) (λ c. search needs) (λ c κs. search needs) returns returns-2
+    (λ c. search needs) (λ c κs. search needs) (λ c κs. search needs) (λ c. search needs) (λ c κs. search needs) returns returns-2
     returns-3 returns-4 returns-5)

@@ -2,8 +2,8 @@ use borrow.Author.Needs.{needs}
 use mathlib.Core.Path.{refl}
 use borrow.Author.Tests.{lt-ltb, le-ltb}
 use lib.ListN.{length-set}
-use Rattle.device.proofs.controller.store_in.Statement.{statement}
-use Rattle.device.proofs.controller.store_in.Tie as tie
+use Rattle.device.proofs.part_words.store_in.Statement.{statement}
+use Rattle.device.proofs.part_words.store_in.Tie as tie
 
 same-length : tie.Need-same-length
 same-length c = simp length-set

@@ -4,8 +4,8 @@ use Prim.Native.Nat.{_≤_}
 use native.Mathlib.Omega.{arith}
 use lib.ListN.{length, length-drop, take, drop, List·getD-eq-default}
 use lib.Seq.{getD-take, getD-drop, length-take-le}
-use Rattle.device.proofs.controller.word_in.Statement.{statement}
-use Rattle.device.proofs.controller.word_in.Tie as tie
+use Rattle.device.proofs.part_words.word_in.Statement.{statement}
+use Rattle.device.proofs.part_words.word_in.Tie as tie
 
 returns : tie.Need-returns
 returns c =

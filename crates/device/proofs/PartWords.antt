@@ -1,4 +1,4 @@
--- The controller's registers in lent words: one word of one part stored.
+-- The registers of the controller and of the IAC in lent words: one word of one part stored.
 use mathlib.Core.Bool.{Bool, true, false, cond}
 use mathlib.Core.List.{List, [], _∷_}
 use mathlib.Core.Path.{_≡_, refl, sym, ap, _∙_}
@@ -9,9 +9,11 @@ use lib.Dec.{ltb}
 use lib.ListN.{length, length-set, drop, getD, set}
 use lib.Seq.{set-getD, drop-set-lt}
 use Rattle.rifsc.specs.Contents.{withStored}
+use Rattle.iac.specs.Contents as iac
+use Rattle.iac.specs.declared.registers.Register.the-variants.{Ier, Icr}
 use Rattle.rifsc.specs.declared.registers.Register.the-variants.{Cr, Seccfgr, Privcfgr, Rcfglockr, Rimccr, Attr}
-use Rattle.device.specs.Layout.{placeIn, partsOf, headSizes, guardsAt, stateWords, crPart, seccfgrPart, privcfgrPart, rcfglockrPart, rimccrPart, attrPart, stateFrom, stateOf}
-use Rattle.device.specs.State.{withRifsc}
+use Rattle.device.specs.Layout.{placeIn, partsOf, headSizes, guardsAt, stateWords, crPart, seccfgrPart, privcfgrPart, rcfglockrPart, rimccrPart, attrPart, ierPart, isrPart, stateFrom, stateOf}
+use Rattle.device.specs.State.{withIac, withRifsc}
 use Rattle.device.proofs.Parts.{part-length, part-set, place-most}
 use Rattle.device.proofs.StateLayout.{Heads, heads-state, guardParts}
 
@@ -66,6 +68,14 @@ module _ {m m′ : List ℕ} (x v : ℕ) where
   pub attr-stored : OfPart m m′ x v attrPart → stateOf m′ ≡ withRifsc (stateOf m) (withStored (stateOf m .rifsc) (Attr x) v)
   unfolding stateOf partsOf withStored
   attr-stored s = heads-state s
+
+  pub ier-stored : OfPart m m′ x v ierPart → stateOf m′ ≡ withIac (stateOf m) (iac.withStored (stateOf m .iac) (Ier x) v)
+  unfolding stateOf partsOf iac.withStored
+  ier-stored s = heads-state s
+
+  pub isr-stored : OfPart m m′ x v isrPart → stateOf m′ ≡ withIac (stateOf m) (iac.withStored (stateOf m .iac) (Icr x) v)
+  unfolding stateOf partsOf iac.withStored
+  isr-stored s = heads-state s
 
 module _ {m m′ : List ℕ} (v : ℕ) where
   pub cr-stored : Heads m (set (partsOf headSizes m) crPart (v ∷ [])) m′ → stateOf m′ ≡ withRifsc (stateOf m) (withStored (stateOf m .rifsc) Cr v)

@@ -1,0 +1,40 @@
+// The registers of the IAC in the state's memory: the word that an access to one needs, and the word that it leaves.
+use crate::layout::IER;
+use crate::layout::ISR;
+use crate::part_words::store_in;
+use crate::part_words::word_in;
+use iac::Register;
+use words::BIT_WORDS;
+ghost use mathlib.Core.Path.{_≡_};
+ghost use lib.ListN.{length};
+ghost use Rattle.iac.specs.Contents.{stored, withStored};
+ghost use Rattle.device.specs.Layout.{stateOf, stateWords};
+ghost use Rattle.device.specs.State.{withIac};
+
+// The word stored for a register: for ICR the flags that it clears.
+pub(crate) fn load_flags(state: &[u32], reg: Register) -> u32
+    requires { ⌜ length (now state) ≡ stateWords ⌝ }
+    ensures { λ r. ⌜ r ≡ stored (stateOf (now (state .entry)) .iac) reg ⌝ }
+{
+    match reg {
+        Register::Ier(x) => word_in(state, IER, BIT_WORDS, x),
+        Register::Isr(x) => word_in(state, ISR, BIT_WORDS, x),
+        Register::Icr(x) => word_in(state, ISR, BIT_WORDS, x),
+        Register::Iisr(_) => 0,
+        Register::Unknown => 0,
+    }
+}
+
+// Stores a register's word.
+pub(crate) fn store_flags(state: &mut [u32], reg: Register, v: u32)
+    requires { ⌜ length (now state) ≡ stateWords ⌝ }
+    ensures { λ _. ⌜ stateOf (now (state .exit)) ≡ withIac (stateOf (now (state .entry))) (withStored (stateOf (now (state .entry)) .iac) reg v) ⌝ }
+{
+    match reg {
+        Register::Ier(x) => store_in(state, IER, BIT_WORDS, x, v),
+        Register::Isr(_) => {}
+        Register::Icr(x) => store_in(state, ISR, BIT_WORDS, x, v),
+        Register::Iisr(_) => {}
+        Register::Unknown => {}
+    }
+}
