@@ -1,12 +1,10 @@
 -- A register access to the controller or to the IAC, by what the code's calls give.
-use mathlib.Core.Bool.{Bool, true, false, cond}
+use mathlib.Core.Bool.{true, false, cond}
 use mathlib.Core.Path.{_≡_, refl, sym, ap, _∙_}
 use Prim.Native.Nat.{ℕ}
 use Rattle.access.specs.Answer.{left}
 use Rattle.access.specs.declared.answer.Why.{Why}
-use Rattle.access.specs.declared.answer.Answer.{Answer}
 use Rattle.access.specs.declared.answer.Answer.the-variants.{Done, Refused, Rejected}
-use Rattle.access.specs.declared.flag.Flag.{Flag}
 use Rattle.access.specs.declared.request.Request.{Request}
 use Rattle.rifsc.specs.Port as rifsc
 use Rattle.rifsc.specs.Contents.{seen, withStored}

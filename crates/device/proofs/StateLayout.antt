@@ -8,14 +8,12 @@ use borrow.Author.Tests.{eq-eqb, lt-ltb}
 use lib.Dec.{lit<}
 use lib.ListN.{length, length-map, drop-of-length-le, length-set, take, drop, getD, set, replicate, take-append-drop, length-take, length-drop, length-replicate, getD-replicate, List·getD-map}
 use lib.Seq.{paste, length-paste, set-getD, set-set, getD-set-same, take-all, drop-set-add, drop-drop, length-take-le, getD-take, getD-drop}
-use Rattle.risaf.specs.Contents.{headWords, regionsWords, guardSize, guardWords, guardFrom, withWord, reset}
+use Rattle.risaf.specs.Contents.{headWords, regionsWords, guardSize, guardWords, guardFrom, withWord}
 use Rattle.risaf.specs.Guards.{guardCount}
 use Rattle.risaf.specs.declared.contents.Guard.{Guard}
-use Rattle.rifsc.specs.Contents as rifsc
-use Rattle.iac.specs.Contents as iac
 use Rattle.rifsc.specs.declared.contents.Rifsc.{Rifsc}
 use Rattle.iac.specs.declared.contents.Iac.{Iac}
-use Rattle.device.specs.State.{State, guardAt, withRifsc, withIac, withGuards, withGuardAt, resetState}
+use Rattle.device.specs.State.{State, guardAt, withRifsc, withIac, withGuards, withGuardAt}
 use Rattle.device.specs.Layout.{placeIn, total, partsOf, joined, headSizes, guardSizes, guardsAt, stateWords, crPart, seccfgrPart, privcfgrPart, rcfglockrPart, rimccrPart, attrPart, ierPart, isrPart, only, headOf, layout, stateFrom, stateOf, regionsIn}
 use Rattle.device.proofs.Parts.{drop-take, paste-drop, parts-paste, joined-parts, parts-count, part-is, part-length, part-set, parts-past, part-paste, paste-past, set-paste, map-set, place-alike, total-alike, place-most}
 
@@ -293,12 +291,10 @@ guards-more s i g h = rw add-one (ap (withGuards s) (by i (s .guards) h))
     by zero (x ∷ gs) l = refl
     by (suc j) (x ∷ gs) l = ap (λ (r : List Guard). g ∷ r) (by j gs (omega arith))
 
--- every guard, the controller and the IAC reset
-pub reset-is : (s : State) → length (s .guards) ≡ guardCount → s .rifsc ≡ rifsc.reset → s .iac ≡ iac.reset
-    → withGuards s (replicate guardCount reset ++ drop guardCount (s .guards)) ≡ resetState
-unfolding resetState
-reset-is s n er ei =
-    rw (er, ei)
-    (ap (λ (l : List Guard). record { rifsc = rifsc.reset; iac = iac.reset; guards = replicate guardCount reset ++ l })
-    (drop-of-length-le (s .guards) {i = guardCount} (omega arith))
-    ∙ ap (λ (l : List Guard). record { rifsc = rifsc.reset; iac = iac.reset; guards = l }) (append-nil (replicate guardCount reset)))
+-- every guard alike
+pub guards-all : (s : State) (g : Guard) → length (s .guards) ≡ guardCount
+    → withGuards s (replicate guardCount g ++ drop guardCount (s .guards)) ≡ withGuards s (replicate guardCount g)
+guards-all s g n =
+    ap (withGuards s)
+    (ap (λ (l : List Guard). replicate guardCount g ++ l) (drop-of-length-le (s .guards) {i = guardCount} (omega arith))
+    ∙ append-nil (replicate guardCount g))

@@ -27,7 +27,7 @@ pub data Lock : Type 0 where
   -- RLOCK of subregion p of base region x of guard n
   subLock : (n x p : ℕ) → Lock
 
--- the bit is one there is: its PPSR bit is 1, the guard one of the thirteen, the base region one of the guard's
+-- the bit is one there is: its PPSR bit is 1, the guard one that there is, the base region one of the guard's
 abbrev pub Named : Lock → Type 0
 Named glock = Unit {0}
 Named rimcLock = Unit {0}

@@ -1,4 +1,4 @@
--- Demand 3, of every map that is made: of any stored registers, for each of the thirteen guards.
+-- Demand 3, of every map that is made: of any stored registers, for each guard.
 use mathlib.Core.Bool.{true}
 use mathlib.Core.List.{List}
 use mathlib.Core.Path.{_≡_, ap, _∙_}

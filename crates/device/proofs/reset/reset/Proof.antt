@@ -1,5 +1,5 @@
 use mathlib.Core.List.{_++_}
-use mathlib.Core.Path.{_≡_, refl, ap, _∙_}
+use mathlib.Core.Path.{_≡_, refl, ap, ap₂, _∙_}
 use Prim.Native.Nat.{_≤_, _-_}
 use native.Mathlib.Omega.{arith}
 use borrow.Author.Needs.{needs}
@@ -7,8 +7,8 @@ use lib.ListN.{length, drop, replicate}
 use Rattle.risaf.specs.Contents.{guardWords, reset}
 use Rattle.risaf.specs.Guards.{guardCount}
 use Rattle.device.specs.Layout.{stateOf, stateWords}
-use Rattle.device.specs.State.{State, withGuards}
-use Rattle.device.proofs.StateLayout.{guards-count, guards-more, reset-is}
+use Rattle.device.specs.State.{State, withRifsc, withIac, withGuards, resetState}
+use Rattle.device.proofs.StateLayout.{guards-count, guards-more, guards-all}
 use Rattle.device.proofs.reset.reset.Statement.{statement}
 use Rattle.device.proofs.reset.reset.Tie as tie
 
@@ -41,15 +41,17 @@ loop-again c =
     )
 
 returns : tie.Need-returns Inv-loop μ-loop
+unfolding resetState
 returns c =
     let l = c .before .loop in
     let e : l .i ≡ guardCount = omega arith in
     let m = c .before .before .before .before .before .store-iac .last .0 in
     let i = c .before .before .before .before .before .store-iac .ensures in
     let r = c .before .before .before .before .before .before .before .before .before .before .store-rifsc .ensures in
-    l .inv .3 ∙ rw e
-    (reset-is (stateOf m) (guards-count m) (ap (λ (s : State). s .rifsc) i ∙ ap (λ (s : State). s .rifsc) r ∙ c .before .before .before .before .before .before .before .before .before .before .before .reset .ensures)
-    (ap (λ (s : State). s .iac) i ∙ c .before .before .before .before .before .before .reset2 .ensures))
+    let s = stateOf (c .before .before .before .before .before .before .before .before .before .before .before .before .before .before .args .state .now) in
+    l .inv .3 ∙ rw e (guards-all (stateOf m) reset (guards-count m))
+    ∙ ap (λ (t : State). withGuards t (replicate guardCount reset))
+    (i ∙ ap₂ withIac (r ∙ ap (withRifsc s) (c .before .before .before .before .before .before .before .before .before .before .before .reset .ensures)) (c .before .before .before .before .before .before .reset2 .ensures))
 
 pub reset-spec : {M : Type 1} → statement M
 reset-spec =
