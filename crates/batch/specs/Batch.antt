@@ -16,9 +16,9 @@ use Rattle.batch.specs.declared.batches.Batched.{Batched}
 use Rattle.batch.specs.declared.batches.Batched.the-variants.{Done, WrongLength}
 
 -- how a batch ends is an answer
-abbrev pub answerOf : Batched → Answer
-answerOf (Done v) = answer.Done v
-answerOf WrongLength = answer.Rejected why.WrongLength
+abbrev pub endAnswer : Batched → Answer
+endAnswer (Done v) = answer.Done v
+endAnswer WrongLength = answer.Rejected why.WrongLength
 
 -- ---- events one after the other, each by `apply`: what they leave in lent memory, and the answer to each
 

@@ -8,7 +8,7 @@ ghost use mathlib.Core.Bool.{_&&_};
 ghost use lib.Dec.{eqb, leb};
 ghost use lib.ListN.{length, set};
 ghost use Rattle.access.specs.Answer.{encodedOf};
-ghost use Rattle.batch.specs.Batch.{answerOf, batchAnswers, batchState, batched};
+ghost use Rattle.batch.specs.Batch.{endAnswer, batchAnswers, batchState, batched};
 ghost use Rattle.device.specs.Applied.{appliedAnswer, appliedState};
 ghost use Rattle.device.specs.Layout.{stateWords};
 ghost use Rattle.device.specs.declared.event.Event.the-variants.{Memory};
@@ -22,7 +22,7 @@ pub enum Batched {
 impl Batched {
     // The answer in memory and in C.
     pub fn encoded(self) -> u64
-        ensures { λ r. ⌜ r ≡ encodedOf (answerOf self) ⌝ }
+        ensures { λ r. ⌜ r ≡ encodedOf (endAnswer self) ⌝ }
     {
         match self {
             Batched::Done(value) => Answer::Done(value).encoded(),

@@ -1,2 +1,5 @@
+-- The worked examples of document 01.
+--     Example     meaning: what an example is, and when it comes out right
+--     Examples    meaning: the examples themselves, in the document's order
 pub mod Example
 pub mod Examples

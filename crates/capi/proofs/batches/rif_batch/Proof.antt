@@ -37,7 +37,7 @@ use denote.Triple.Table.{entered, cited}
 use denote.Triple.Walked.{Stays, gave-slice, stay-none-slice, onExit, walkOf, Walks, ends-at, walked, goes-gave-slice, goes-none-slice, walk-meets}
 use denote.Exit.{yes}
 use Rattle.access.specs.Answer.{encodedOf}
-use Rattle.batch.specs.Batch.{answerOf, batchAnswers, batchState, batched}
+use Rattle.batch.specs.Batch.{endAnswer, batchAnswers, batchState, batched}
 use Rattle.batch.specs.declared.batches.Batched.{Batched}
 use Rattle.batch.proofs.batches.Batched as R
 use Rattle.batch.proofs.batches.Batched.Laws as R′
@@ -121,7 +121,7 @@ module _ {M : Type 1} (𝓤 : URA M) (H : Heap 𝓤) (A : Atoms 𝓤) (W : Given
 
   -- from what is had at exit to the `post` of `walkOf`
   exits : (x : ℕ) (v : Val) (st′ an′ : List ℕ) → length st′ ≡ length st → length an′ ≡ length an
-      → (x ≡ encodedOf (answerOf (batched st ys an))) × ((st′ ≡ batchState st ys an) × (an′ ≡ batchAnswers st ys an))
+      → (x ≡ encodedOf (endAnswer (batched st ys an))) × ((st′ ≡ batchState st ys an) × (an′ ≡ batchAnswers st ys an))
       → ent 𝓤 (⋆ 𝓤 H A (Tokens ∷ ‵ (finally u32 γ₁ st′) ∷ ‵ OwnL ∷ ‵ (finally u64 γ₃ an′) ∷ ‵ (u64 .own x (v ∷ [])) ∷ [])) (Post v)
   exits x v st′ an′ e₁ e₃ said =
       qed W (Tokens ∷ ‵ (finally u32 γ₁ st′) ∷ ‵ OwnL ∷ ‵ (finally u64 γ₃ an′) ∷ ‵ (u64 .own x (v ∷ [])) ∷ []) ∵
@@ -166,13 +166,13 @@ module _ {M : Type 1} (𝓤 : URA M) (H : Heap 𝓤) (A : Atoms 𝓤) (W : Given
         move ! (4 ∷ []) $ split ! $ move ! (1 ∷ []) $ facts ! R.the-row (Is R.the-row) (shows 𝓤 H A R.the-row) r (w ∷ []) (λ is. land ! (from ! (stop !)) (init ! 13 refl (EL.lawful R.the-type R′.the-laws 𝓤 H A W tt .typed r _ is .0)) $
         use0 W (raw (Encoded 𝓤 H A mem run .pre (to-encoded r w))) (asks r w is) $ calls-at ! fm (Encoded 𝓤 H A mem run) coded (to-encoded r w) (and-then ! (load ! (from ! (stop !)) (look ! 14 refl)) (no-more !)) (λ v.
         use1 W (later (some (λ (x : ℕ). (‵ ftrue ⊛ ‵ (u64 .own x (v ∷ []))) ⊛ raw (ensured 𝓤 H A encoded.ended (encoded.clauses 𝓤 H A mem run) tt (r, tt) tt x)))) (id⊢ 𝓤 _) $ await ! tt $ pick ! (λ x.
-        split ! $ move ! (1 ∷ []) $ use1 W (some (λ (us : Unit {0} × Unit {0}). ‵ (lasts encoded.ended tt (r, tt) us) ⊛ raw (fact 𝓤 (x ≡ encodedOf (answerOf r))))) (id⊢ 𝓤 _) $ pick ! (λ us.
-        split ! $ move ! (1 ∷ []) $ heard ! (x ≡ encodedOf (answerOf r)) (λ f. move ! (1 ∷ []) $ split ! $ move ! (1 ∷ []) $
+        split ! $ move ! (1 ∷ []) $ use1 W (some (λ (us : Unit {0} × Unit {0}). ‵ (lasts encoded.ended tt (r, tt) us) ⊛ raw (fact 𝓤 (x ≡ encodedOf (endAnswer r))))) (id⊢ 𝓤 _) $ pick ! (λ us.
+        split ! $ move ! (1 ∷ []) $ heard ! (x ≡ encodedOf (endAnswer r)) (λ f. move ! (1 ∷ []) $ split ! $ move ! (1 ∷ []) $
         peeks ! u64 (Is u64) (shows 𝓤 H A u64) x (v ∷ []) (λ is′. land ! (from ! (stop !)) (init ! 24 refl (uint-lawful 𝓤 H A W w64 .typed x _ is′ .0)) $
         -- [the number; true; true; the tokens; answers' last list; true; true; state's; the locals; list's copy]
         returns ! (look ! 24 refl) $ forget ! 8 refl $ forget ! 10 refl $ forget ! 12 refl $ forget ! 14 refl $ forget ! 16 refl $ forget ! 18 refl $ forget ! 20 refl $ forget ! 22 refl $ forget ! 24 refl $
         move ! (24 ∷ 25 ∷ []) $ free1 ! $ move ! (22 ∷ 23 ∷ []) $ free1 ! $ move ! (20 ∷ 21 ∷ []) $ free1 ! $ move ! (18 ∷ 19 ∷ []) $ free1 ! $ move ! (16 ∷ 17 ∷ []) $ free1 ! $ move ! (14 ∷ 15 ∷ []) $ free1 ! $ move ! (12 ∷ 13 ∷ []) $ free1 ! $ move ! (10 ∷ 11 ∷ []) $ free1 ! $ move ! (8 ∷ 9 ∷ []) $ free1 ! $ free0 ! $
-        keep ! (3 ∷ 7 ∷ 8 ∷ 4 ∷ 0 ∷ []) $ by ! (exits x v (zs .0) (zs .1 .1 .0) e₁ e₃ (f ∙ ap (λ (b : Batched). encodedOf (answerOf b)) f₀, (f₁, f₃))))))))))))))))))))))))))
+        keep ! (3 ∷ 7 ∷ 8 ∷ 4 ∷ 0 ∷ []) $ by ! (exits x v (zs .0) (zs .1 .1 .0) e₁ e₃ (f ∙ ap (λ (b : Batched). encodedOf (endAnswer b)) f₀, (f₁, f₃))))))))))))))))))))))))))
 
 module _ {M : Type 1} (𝓤 : URA M) (H : Heap 𝓤) (A : Atoms 𝓤) (W : Given 𝓤 H A) (mem : Memory → SProp 𝓤) (run : Routine → Fun 𝓤) (𝓣 : Tables 𝓤 H) where
   rif-walks : Triple 𝓤 (𝓣 .C #batch) (Batch 𝓤 H A mem run) → Triple 𝓤 (𝓣 .C #encoded) (Encoded 𝓤 H A mem run)
