@@ -1,4 +1,5 @@
 pub mod Obeyed
+pub mod Sample
 pub mod SameSheet
 pub mod Sheets
 pub mod Written
