@@ -119,6 +119,20 @@ width-bound (suc k) n h = go (ltb n 10) refl (width-bound k (n / 10) (omega (ari
     go true e r = omega (arith, width-one n (ltb-true n 10 e))
     go false e r = omega (arith, width-more n (ltb-false n 10 e))
 
+-- as many digits hold it
+pub width-holds : (n : ℕ) → n < 10 ^ widthOf n
+width-holds n = within n n (omega arith)
+  where
+    within : (s n : ℕ) → n ≤ s → n < 10 ^ widthOf n
+    within zero n h = rw (width-one n (omega arith)) (omega arith)
+    within (suc s) n h = go (ltb n 10) refl (within s (n / 10) (omega arith))
+      where
+        go : (b : Bool) → ltb n 10 ≡ b → n / 10 < 10 ^ widthOf (n / 10) → n < 10 ^ widthOf n
+        go true e r =
+            let l = ltb-true n 10 e in
+            rw (width-one n l) l
+        go false e r = rw (width-more n (ltb-false n 10 e), pow-suc 10 (widthOf (n / 10))) (omega arith)
+
 -- ---- how long a line is
 
 pub answer-length : (number value : ℕ) → length (answerLine number value) ≡ widthOf number + 14

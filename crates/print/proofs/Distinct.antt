@@ -1,4 +1,4 @@
--- Different numbers have different digits, and different rows different lines.
+-- Different numbers have different digits, different rows different lines, and different answers too.
 use mathlib.Core.Bool.{Bool, true, false}
 use mathlib.Core.List.{List, _++_}
 use mathlib.Core.Path.{_≡_, refl, sym, ap, _∙_}
@@ -10,8 +10,10 @@ use lib.Dec.{ltb, lit<, lit≤}
 use lib.ListN.{length, take, drop, getD, length-append}
 use lib.Seq.{take-at, drop-at}
 use Rattle.print.specs.Bytes.{bytes}
-use Rattle.print.specs.Print.{character, digitsOf, hexText, spanLine}
-use Rattle.print.proofs.Digits.{digits-length}
+use Rattle.print.specs.Print.{character, digitsOf, hexText, widthOf, decimalText, answerLine, spanLine}
+use Rattle.print.proofs.Digits.{digits-length, width-holds, answer-length}
+use Rattle.access.specs.Answer.{numberOf, valueOf}
+use Rattle.access.specs.declared.answer.Answer.{Answer}
 
 -- fronts of one length are the same, and what is behind them
 pub same-parts : (a a′ b b′ : List ℕ) → length a ≡ length a′ → a ++ b ≡ a′ ++ b′ → (a ≡ a′) × (b ≡ b′)
@@ -69,3 +71,26 @@ span-same s s′ e e′ q q′ hs hs′ he he′ hq hq′ line =
     let ends = same-parts (first s) (first s′) _ _ (simp (length-append, ls, ls′)) (rights .0) in
     let starts = same-parts label label _ _ refl (ends .0) in
     (ended-same 8 s s′ tab hs hs′ (starts .1), ended-same 8 e e′ tab he he′ (ends .1), ended-same 16 q q′ (bytes "\n") hq hq′ (rights .1))
+
+-- an answer's line tells its number, whatever it is, and its value
+pub answer-same : (n n′ v v′ : ℕ) → v < 2 ^ 32 → v′ < 2 ^ 32 → answerLine n v ≡ answerLine n′ v′ → (n ≡ n′) × (v ≡ v′)
+unfolding answerLine decimalText
+answer-same n n′ v v′ hv hv′ line =
+    let label = bytes "ans\t" in
+    let tab = bytes "\t" in
+    let front : ℕ → List ℕ = λ n. label ++ (digitsOf 10 (widthOf n) n ++ tab) in
+    let w : widthOf n ≡ widthOf n′ = omega (arith, answer-length n v, answer-length n′ v′, ap length line) in
+    let d = digits-length 10 (widthOf n) n in
+    let d′ = digits-length 10 (widthOf n′) n′ ∙ sym w in
+    let values = same-parts (front n) (front n′) _ _ (simp (length-append, d, d′)) line in
+    let numbers = same-parts label label _ _ refl (values .0) .1 in
+    let digits = same-parts (digitsOf 10 (widthOf n) n) (digitsOf 10 (widthOf n′) n′) tab tab (d ∙ sym d′) numbers .0 in
+    let few : n′ < 10 ^ widthOf n = rw w (width-holds n′) in (
+      digits-same 10 (lit< tt) (lit≤ tt) (widthOf n) n n′ (width-holds n) few (digits ∙ rw w),
+      ended-same 8 v v′ (bytes "\n") hv hv′ (values .1),
+    )
+
+-- two answers that print the same line have one number and one value
+pub answers-same : (a b : Answer) → valueOf a < 2 ^ 32 → valueOf b < 2 ^ 32
+    → answerLine (numberOf a) (valueOf a) ≡ answerLine (numberOf b) (valueOf b) → (numberOf a ≡ numberOf b) × (valueOf a ≡ valueOf b)
+answers-same a b h h′ line = answer-same (numberOf a) (numberOf b) (valueOf a) (valueOf b) h h′ line

@@ -1,5 +1,5 @@
 -- The laws of reading. For users of the crate:
---     RoundTrips    what is printed reads back: hex-back, decimal-back
+--     RoundTrips    a printed number reads back: hex-back, decimal-back
 -- The others serve the proofs of functions: Cuts (the table of starts), Same (bytes compared), Values (digits read one by one), Lines (a line by
 -- the readings of its fields).
 pub mod Cuts

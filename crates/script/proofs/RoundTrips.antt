@@ -1,4 +1,4 @@
--- What is printed reads back: a number in decimal, and a word in 8 hexadecimal digits.
+-- A printed number reads back: in decimal, and a word in 8 hexadecimal digits.
 use mathlib.Core.Bool.{Bool, true, false}
 use mathlib.Core.List.{List, [], _∷_, _++_}
 use mathlib.Core.Path.{_≡_, refl, ap, _∙_}
@@ -10,7 +10,7 @@ use lib.Dec.{ltb, lit<, lit≤}
 use Rattle.script.specs.Numbers.{isDecimal, isHex, digit, every, valueFrom, unpadded, hexOf, decimalOf, numberMost}
 use Rattle.print.specs.Print.{character, digitsOf, hexText, widthIn, widthOf, decimalText}
 use Rattle.script.specs.declared.numbers.Number.the-variants.{Value}
-use Rattle.print.proofs.Digits.{digits-length, width-one, width-more}
+use Rattle.print.proofs.Digits.{digits-length, width-one, width-more, width-holds}
 
 -- ---- one digit
 
@@ -82,17 +82,6 @@ hex-back w h =
 
 -- ---- a number
 
--- as many digits hold it
-width-holds : (s n : ℕ) → n ≤ s → n < 10 ^ widthOf n
-width-holds zero n h = rw (width-one n (omega arith)) (omega arith)
-width-holds (suc s) n h = go (ltb n 10) refl (width-holds s (n / 10) (omega arith))
-  where
-    go : (b : Bool) → ltb n 10 ≡ b → n / 10 < 10 ^ widthOf (n / 10) → n < 10 ^ widthOf n
-    go true e r =
-        let l = ltb-true n 10 e in
-        rw (width-one n l) l
-    go false e r = rw (width-more n (ltb-false n 10 e), pow-suc 10 (widthOf (n / 10))) (omega arith)
-
 -- the digits begin with another than 0
 pub record Leads (bs : List ℕ) : Type 0 where
   pub first : ℕ
@@ -131,7 +120,7 @@ unpadded-text (suc n) =
 
 decimal-value : (n : ℕ) → valueFrom 10 0 (decimalText n) ≡ n
 unfolding decimalText
-decimal-value n = value-back 10 (lit< tt) (lit≤ tt) (widthOf n) n (width-holds n n (omega arith))
+decimal-value n = value-back 10 (lit< tt) (lit≤ tt) (widthOf n) n (width-holds n)
 
 decimal-digits : (n : ℕ) → every isDecimal (decimalText n) ≡ true
 unfolding decimalText
