@@ -40,8 +40,8 @@ demand-3 s n l h =
     record {
       tiles = i .tiles;
       exact =
-          λ j x k hj low high c.
-          ap (λ (q : ℕ). bit q (rightsBit k)) (i .exact j x hj low high) ∙ bit-grants s n x h (omega (arith, end-below (i .tiles) j hj)) k c;
+          λ j x width k hj low high w a c.
+          ap (λ (q : ℕ). bit q (rightsBit k)) (i .exact j x hj low high) ∙ bit-grants s n x h (omega (arith, end-below (i .tiles) j hj)) width w a k c;
       differ = i .differ;
       most = guard-rows-most s n;
     }

@@ -13,7 +13,7 @@ use Rattle.access.specs.Kind.{kindOf, rightsBit}
 use Rattle.access.specs.declared.answer.Answer.the-variants.{Done, Refused}
 use Rattle.access.specs.declared.kind.Kind.{Kind}
 use Rattle.risaf.specs.Guards.{isGuard, shapeOf}
-use Rattle.risaf.specs.Memory.{memoryStepped, memoryAnswer, memoryChecks}
+use Rattle.risaf.specs.Memory.{isWidth, memoryStepped, memoryAnswer, memoryChecks}
 use Rattle.regions.specs.Rights.{rights}
 use Rattle.regions.specs.Rules.{decided}
 use Rattle.regions.proofs.RightsBits.{rights-bit}
@@ -27,25 +27,29 @@ done : (v : Bool) (rule : ℕ) → eqb (numberOf (unless v (Refused 0) (Done rul
 done true rule = refl
 done false rule = refl
 
-module _ (s : State) (n o : ℕ) (hn : isGuard n ≡ true) (ho : o < shapeOf n .window) where
-  grants-decided : (k : Kind) → k .cid .0 ≤ 7 → grantsAt s n o k ≡ decided (guardOf s n .regions) (shapeOf n .regions) o k .granted
-  unfolding grantsAt step memoryStep memoryStepped memoryAnswer memoryChecks answered reached
-  grants-decided k hk =
-      let v = decided (guardOf s n .regions) (shapeOf n .regions) o k in
-      simp (hn, le-leb (k .cid .0) 7 hk, eq-eqb (o % 1) 0 (omega arith), lt-ltb o (shapeOf n .window) ho) (done (v .granted) (v .rule))
+module _ (s : State) (n x : ℕ) (hn : isGuard n ≡ true) (hx : x < shapeOf n .window) where
+  module _ (width : ℕ) (hw : isWidth width ≡ true) (ha : x % width ≡ 0) where
+    grants-decided : (k : Kind) → k .cid .0 ≤ 7 → grantsAt s n x width k ≡ decided (guardOf s n .regions) (shapeOf n .regions) x k .granted
+    unfolding grantsAt step memoryStep memoryStepped memoryAnswer memoryChecks answered reached
+    grants-decided k hk =
+        let v = decided (guardOf s n .regions) (shapeOf n .regions) x k in
+        simp (hn, le-leb (k .cid .0) 7 hk, hw, eq-eqb (x % width) 0 ha, lt-ltb x (shapeOf n .window) hx) (done (v .granted) (v .rule))
 
-  -- each bit is the answer to its kind of asking
-  pub bit-grants : (k : Kind) → k .cid .0 ≤ 7 → bit (rightsOf s n o) (rightsBit k) ≡ grantsAt s n o k
-  unfolding rightsOf
-  bit-grants k hk = rights-bit (guardOf s n .regions) (shapeOf n .regions) o k hk ∙ sym (grants-decided k hk)
+    -- each bit is the answer to its kind of asking
+    pub bit-grants : (k : Kind) → k .cid .0 ≤ 7 → bit (rightsOf s n x) (rightsBit k) ≡ grantsAt s n x width k
+    unfolding rightsOf
+    bit-grants k hk = rights-bit (guardOf s n .regions) (shapeOf n .regions) x k hk ∙ sym (grants-decided k hk)
 
--- where all answers are the same, so is the rights word
-pub rights-same : (s t : State) (n o : ℕ) → isGuard n ≡ true → o < shapeOf n .window
-    → ((k : Kind) → k .cid .0 ≤ 7 → grantsAt s n o k ≡ grantsAt t n o k) → rightsOf s n o ≡ rightsOf t n o
+  byte-decided : (k : Kind) → k .cid .0 ≤ 7 → grantsAt s n x 1 k ≡ decided (guardOf s n .regions) (shapeOf n .regions) x k .granted
+  byte-decided = grants-decided 1 refl (omega arith)
+
+-- where the answers to all accesses of one byte are the same, so is the rights word
+pub rights-same : (s t : State) (n x : ℕ) → isGuard n ≡ true → x < shapeOf n .window
+    → ((k : Kind) → k .cid .0 ≤ 7 → grantsAt s n x 1 k ≡ grantsAt t n x 1 k) → rightsOf s n x ≡ rightsOf t n x
 unfolding rightsOf rights
-rights-same s t n o hn ho same =
+rights-same s t n x hn hx same =
     word-cong 64 _ _
     (λ b h.
     let k = kindOf b in
     let c : k .cid .0 ≤ 7 = omega arith in
-    sym (grants-decided s n o hn ho k c) ∙ same k c ∙ grants-decided t n o hn ho k c)
+    sym (byte-decided s n x hn hx k c) ∙ same k c ∙ byte-decided t n x hn hx k c)

@@ -1,8 +1,9 @@
 -- The mission's sentence, of the maps' rows: two states have the same sheet exactly when every access is granted by both or by neither.
 use mathlib.Core.Bool.{true}
 use mathlib.Core.Logic.{_↔_}
-use mathlib.Core.Path.{_≡_, sym, ap, _∙_}
+use mathlib.Core.Path.{_≡_, refl, sym, ap, _∙_}
 use Prim.Native.Nat.{ℕ}
+use native.Mathlib.Omega.{arith}
 use Rattle.words.specs.Bit.{bit}
 use Rattle.access.specs.Kind.{rightsBit}
 use Rattle.risaf.specs.Guards.{isGuard, shapeOf}
@@ -17,6 +18,6 @@ pub sheets : (s t : State) (n : ℕ) → isGuard n ≡ true → (flat (rowsOf s 
 unfolding rowsOf SameGrants
 sheets s t n h =
     let c = canonical-flat (rightsOf s n) (rightsOf t n) (shapeOf n .window) in (
-      (λ e o k l u. sym (bit-grants s n o h l k u) ∙ ap (λ (q : ℕ). bit q (rightsBit k)) (c .0 e o l) ∙ bit-grants t n o h l k u),
-      (λ same. c .1 (λ o l. rights-same s t n o h l (λ k u. same o k l u))),
+      (λ e x width k l w a u. sym (bit-grants s n x h l width w a k u) ∙ ap (λ (q : ℕ). bit q (rightsBit k)) (c .0 e x l) ∙ bit-grants t n x h l width w a k u),
+      (λ same. c .1 (λ x l. rights-same s t n x h l (λ k u. same x 1 k l refl (omega arith) u))),
     )

@@ -28,15 +28,19 @@ writes block offset value secure privileged =
       request = record { offset = offset; write = true; value = value; secure = secure; privileged = privileged };
     })
 
--- at guard n, one byte wide
-abbrev pub asks : ℕ → ℕ → Bool → ℕ → Bool → Bool → Event
-asks n offset write cid secure privileged =
+-- at guard n, so many bytes wide
+abbrev pub asksWide : ℕ → ℕ → ℕ → Bool → ℕ → Bool → Bool → Event
+asksWide width n offset write cid secure privileged =
     Memory (record {
       guard = record { 0 = n };
       offset = offset;
-      width = 1;
+      width = width;
       kind = record { cid = record { 0 = cid }; write = write; privileged = privileged; secure = secure };
     })
+
+-- one byte wide
+abbrev pub asks : ℕ → ℕ → Bool → ℕ → Bool → Bool → Event
+asks = asksWide 1
 
 -- ---- a line of an example, and an example
 

@@ -1,32 +1,39 @@
 -- Document 01's marked examples, W1 to W14. Register offsets of guard 2: region 1 is at 040, its subregion A at 050.
 use mathlib.Core.Bool.{true, false}
 use mathlib.Core.List.{List, [], _∷_, _++_}
+use Prim.Native.Nat.{ℕ}
 use Rattle.device.specs.declared.event.Block.{Block}
 use Rattle.device.specs.declared.event.Block.the-variants.{Rifsc, Iac, Risaf}
-use Rattle.worked.specs.Example.{Line, gives, prints, reads, writes, asks}
+use Rattle.worked.specs.Example.{Line, gives, prints, reads, writes, asks, asksWide}
 
 abbrev guard2 : Block
 guard2 = Risaf (record { 0 = 2 })
 
+-- W1 to W4 name no width: they stand for each
+
 -- guard 2, offset 0, read, CID 1 secure privileged: 0, rule 0
-abbrev pub w1 : List Line
-w1 = gives (asks 2 0 false 1 true true) 0 0 ∷ []
+abbrev pub w1 : ℕ → List Line
+w1 width = gives (asksWide width 2 0 false 1 true true) 0 0 ∷ []
 
 -- CID 2: 1; ISR4 00001000, IAESR 00000032
-abbrev pub w2 : List Line
-w2 =
-    gives (asks 2 0 false 2 true true) 1 0
+abbrev pub w2 : ℕ → List Line
+w2 width =
+    gives (asksWide width 2 0 false 2 true true) 1 0
     ∷ gives (reads Iac 0x090 true true) 0 0x0000_1000
     ∷ gives (reads guard2 0x020 true true) 0 0x0000_0032
     ∷ []
 
 -- after W2, nonsecure write CID 3 at 40: 1, IAESR still 00000032
-abbrev pub w3 : List Line
-w3 = w2 ++ gives (asks 2 0x40 true 3 false true) 1 0 ∷ gives (reads guard2 0x020 true true) 0 0x0000_0032 ∷ []
+abbrev pub w3 : ℕ → List Line
+w3 width =
+    w2 width
+    ++ gives (asksWide width 2 0x40 true 3 false true) 1 0
+    ∷ gives (reads guard2 0x020 true true) 0 0x0000_0032
+    ∷ []
 
 -- CID 7 secure privileged granted; CID 7 nonsecure refused
-abbrev pub w4 : List Line
-w4 = gives (asks 2 0 false 7 true true) 0 0 ∷ gives (asks 2 0 false 7 false true) 1 0 ∷ []
+abbrev pub w4 : ℕ → List Line
+w4 width = gives (asksWide width 2 0 false 7 true true) 0 0 ∷ gives (asksWide width 2 0 false 7 false true) 1 0 ∷ []
 
 -- ATTR1 write 00000370 reads 00000300
 abbrev pub w5 : List Line
@@ -118,4 +125,10 @@ w14 =
     ∷ []
 
 unfoldable pub worked : List (List Line)
-worked = w1 ∷ w2 ∷ w3 ∷ w4 ∷ w5 ∷ w6 ∷ w7 ∷ w8 ∷ w9 ∷ w10 ∷ w11 ∷ w12 ∷ w13 ∷ w14 ∷ []
+worked =
+    w1 1 ∷ w2 1 ∷ w3 1 ∷ w4 1 ∷ w5 ∷ w6 ∷ w7 ∷ w8 ∷ w9 ∷ w10 ∷ w11 ∷ w12 ∷ w13 ∷ w14
+    -- W1 to W4, width 2
+    ∷ w1 2 ∷ w2 2 ∷ w3 2 ∷ w4 2
+    -- W1 to W4, width 4
+    ∷ w1 4 ∷ w2 4 ∷ w3 4 ∷ w4 4
+    ∷ []
