@@ -1,4 +1,4 @@
--- Every marked example holds, by computing.
+-- Every marked example holds, and every wrong reading is shut out, by computing.
 use mathlib.Core.Bool.{Bool, true, false, _&&_}
 use mathlib.Core.List.{List, [], _∷_}
 use mathlib.Core.Path.{_≡_, refl, ap, ap₂, _∙_}
@@ -11,6 +11,7 @@ use Rattle.access.specs.Checks.{answered, reached}
 use Rattle.rifsc.specs.Registers.{registerAt as rifsc-registerAt, ppsr, rowOf as rifsc-rowOf}
 use Rattle.rifsc.specs.Contents.{stored as rifsc-stored, withStored as rifsc-withStored, seen as rifsc-seen, reset as rifsc-reset}
 use Rattle.rifsc.specs.Port.{readOf as rifsc-readOf, takes, wordWritten as rifsc-wordWritten, checksOf as rifsc-checksOf, answerOf as rifsc-answerOf, written as rifsc-written, stepped as rifsc-stepped}
+use Rattle.rifsc.specs.Peripherals.{exists, grants}
 use Rattle.iac.specs.Registers.{registerAt as iac-registerAt, iisr, rowOf as iac-rowOf}
 use Rattle.iac.specs.Contents.{stored as iac-stored, reset as iac-reset}
 use Rattle.iac.specs.Port.{readOf as iac-readOf, checksOf as iac-checksOf, answerOf as iac-answerOf, written as iac-written, stepped as iac-stepped}
@@ -24,7 +25,7 @@ use Rattle.regions.specs.Rules.{decided}
 use Rattle.regions.specs.Rights.{rights}
 use Rattle.risaf.specs.Memory.{memoryChecks, memoryAnswer, recordedFault, faulted, memoryStepped}
 use Rattle.device.specs.State.{State, guardOf, withGuard, resetState}
-use Rattle.device.specs.Step.{registerStep, memoryStep, step}
+use Rattle.device.specs.Step.{registerStep, peripheralStep, memoryStep, step}
 use Rattle.map.specs.Bounds.{pairsOf}
 use Rattle.map.specs.Map.{rightsOf}
 use Rattle.map.proofs.Steady.{rows-swept}
@@ -33,6 +34,7 @@ use Rattle.spans.specs.Rows.{Rows, flat}
 use Rattle.spans.specs.Sweep.{nextOf, sweepFrom, sweptMap, boundsOf}
 use Rattle.worked.specs.Example.{Line, gives, prints, Holds, AllHold}
 use Rattle.worked.specs.Examples.{worked}
+use Rattle.worked.specs.Readings.{readings}
 
 -- ---- a test that computes, and what it says
 
@@ -83,11 +85,14 @@ unfolding AllHold pass
 hold [] h = tt
 hold (x ∷ xs) h = let p = both _ _ h in (holds x resetState (p .0), hold xs (p .1))
 
--- ---- the examples
+-- ---- the examples, and the wrong readings
 
-passed : pass worked ≡ true
-unfolding pass passes same swept worked flat sweptMap sweepFrom nextOf boundsOf join pairsOf rightsOf rights masked merged united withBit answered reached rifsc-registerAt ppsr rifsc-rowOf rifsc-stored rifsc-withStored rifsc-seen rifsc-reset rifsc-readOf takes rifsc-wordWritten rifsc-checksOf rifsc-answerOf rifsc-written rifsc-stepped iac-registerAt iisr iac-rowOf iac-stored iac-reset iac-readOf iac-checksOf iac-answerOf iac-written iac-stepped raise shapeIn shapeOf blockOf subRegister regionRegister registerAt ofHead ofBase ofSub rowOf withWord reset portIn readOf delegated allowedOf subcfgrWritten wordIn checksOf answerOf accessed stepped decided memoryChecks memoryAnswer recordedFault faulted memoryStepped guardOf withGuard resetState registerStep memoryStep step
-passed = refl
+passed : (pass worked ≡ true) × (pass readings ≡ true)
+unfolding pass passes same swept worked readings flat sweptMap sweepFrom nextOf boundsOf join pairsOf rightsOf rights masked merged united withBit answered reached rifsc-registerAt ppsr rifsc-rowOf rifsc-stored rifsc-withStored rifsc-seen rifsc-reset rifsc-readOf takes rifsc-wordWritten rifsc-checksOf rifsc-answerOf rifsc-written rifsc-stepped iac-registerAt iisr iac-rowOf iac-stored iac-reset iac-readOf iac-checksOf iac-answerOf iac-written iac-stepped raise shapeIn shapeOf blockOf subRegister regionRegister registerAt ofHead ofBase ofSub rowOf withWord reset portIn readOf delegated allowedOf subcfgrWritten wordIn checksOf answerOf accessed stepped decided memoryChecks memoryAnswer recordedFault faulted memoryStepped guardOf withGuard resetState registerStep peripheralStep exists grants memoryStep step
+passed = (refl, refl)
 
 pub all-hold : AllHold worked
-all-hold = hold worked passed
+all-hold = hold worked (passed .0)
+
+pub readings-hold : AllHold readings
+readings-hold = hold readings (passed .1)

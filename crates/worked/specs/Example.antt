@@ -9,7 +9,8 @@ use Rattle.device.specs.State.{State, resetState}
 use Rattle.device.specs.Step.{step}
 use Rattle.device.specs.declared.event.Block.{Block}
 use Rattle.device.specs.declared.event.Event.{Event}
-use Rattle.device.specs.declared.event.Event.the-variants.{Register, Memory}
+use Rattle.device.specs.declared.event.Event.the-variants.{Register, Peripheral, Memory}
+use Rattle.device.specs.declared.event.Operation.the-variants.{Read}
 use Rattle.map.specs.Map.{rowsOf}
 
 -- ---- the events of the examples
@@ -41,6 +42,11 @@ asksWide width n offset write cid secure privileged =
 -- one byte wide
 abbrev pub asks : ℕ → ℕ → Bool → ℕ → Bool → Bool → Event
 asks = asksWide 1
+
+-- a read at peripheral p
+abbrev pub uses : ℕ → Bool → Bool → Event
+uses p secure privileged =
+    Peripheral (record { peripheral = record { 0 = p }; operation = Read; secure = secure; privileged = privileged })
 
 -- ---- a line of an example, and an example
 

@@ -6,7 +6,7 @@ use Rattle.device.specs.declared.event.Block.{Block}
 use Rattle.device.specs.declared.event.Block.the-variants.{Rifsc, Iac, Risaf}
 use Rattle.worked.specs.Example.{Line, gives, prints, reads, writes, asks, asksWide}
 
-abbrev guard2 : Block
+abbrev pub guard2 : Block
 guard2 = Risaf (record { 0 = 2 })
 
 -- W1 to W4 name no width: they stand for each
@@ -73,7 +73,7 @@ abbrev pub w10 : List Line
 w10 = gives (reads Iac 0x000 false true) 1 0 ∷ gives (reads Iac 0x090 true true) 0 0x0000_0400 ∷ []
 
 -- guard 2 region 1: START 00010000, END 0001FFFF, CIDCFGR 00040006, CFGR 00000001
-abbrev region1 : List Line
+abbrev pub region1 : List Line
 region1 =
     gives (writes guard2 0x044 0x0001_0000 true true) 0 0
     ∷ gives (writes guard2 0x048 0x0001_ffff true true) 0 0
