@@ -1,5 +1,6 @@
 pub mod Obeyed
 pub mod Sample
+pub mod SameAnswer
 pub mod SameSheet
 pub mod Sheets
 pub mod Written
