@@ -31,7 +31,7 @@ module _ (s : State) (q : Request) {reg : Register} {row : Row} {v : Seen} {r : 
   controller-is : registerStep Rifsc q s
       ≡ settled (r .answer) rifscFlag s
       (withRifsc s
-      (left (r .answer) (s .rifsc) (cond (q .write) (withStored (s .rifsc) reg (rifsc.wordWritten reg v (q .value) (q .secure))) (s .rifsc)) (s .rifsc)))
+      (left (r .answer) (s .rifsc) (cond (q .write) (withStored (s .rifsc) reg (rifsc.wordWritten reg row v (q .value) (q .secure))) (s .rifsc)) (s .rifsc)))
   unfolding registerStep rifsc.stepped rifsc.written rifsc.accessed
   controller-is = rw (ea, ev, er, eg)
 
@@ -42,7 +42,7 @@ module _ (s : State) (q : Request) {reg : Register} {row : Row} {v : Seen} {r : 
       → t ≡ withRifsc s (withStored (s .rifsc) reg (r .next .word)) → t ≡ registerStep Rifsc q s .next
   unfolding rifsc.accessed
   controller-written d w e =
-      let n : r .next .word ≡ rifsc.wordWritten reg v (q .value) (q .secure) = ap (λ (o : Accessed). o .next .word) ea ∙ rw (sym (ap (λ (o : Accessed). o .answer) ea) ∙ d, w) in
+      let n : r .next .word ≡ rifsc.wordWritten reg row v (q .value) (q .secure) = ap (λ (o : Accessed). o .next .word) ea ∙ rw (sym (ap (λ (o : Accessed). o .answer) ea) ∙ d, w) in
       rw controller-is (rw (d, w) (e ∙ ap (λ (k : ℕ). withRifsc s (withStored (s .rifsc) reg k)) n))
 
   pub controller-read : {x : ℕ} → r .answer ≡ Done x → q .write ≡ false → s ≡ registerStep Rifsc q s .next

@@ -21,7 +21,6 @@ use Rattle.access.specs.declared.request.Request.{Request}
 use Rattle.rifsc.specs.Contents as rifsc-contents
 use Rattle.rifsc.specs.Port as rifsc
 use Rattle.rifsc.specs.Registers as rifsc-registers
-use Rattle.rifsc.specs.Registers.{ppsr}
 use Rattle.rifsc.specs.declared.contents.Rifsc.{Rifsc}
 use Rattle.rifsc.specs.declared.registers.Register.{Register as RifscRegister}
 use Rattle.rifsc.specs.declared.registers.Register.the-variants as in-rifsc
@@ -89,12 +88,12 @@ rifsc-still r = record { cr = λ h. h; rimccr = λ h. h; rcfglockr = λ x i l h.
 abbrev wordOf : Rifsc → RifscRegister → ℕ → Bool → ℕ
 wordOf r reg value secure =
     let row = rifsc-registers.rowOf reg in
-    rifsc.wordWritten reg (rifsc-contents.seen r reg (row .lock) (row .index)) value secure
+    rifsc.wordWritten reg row (rifsc-contents.seen r reg (row .lock) (row .index)) value secure
 
 abbrev takesOf : Rifsc → RifscRegister → ℕ → Bool → ℕ → Bool
 takesOf r reg value secure =
     let row = rifsc-registers.rowOf reg in
-    rifsc.takes reg (rifsc-contents.seen r reg (row .lock) (row .index)) value secure
+    rifsc.takes reg row (rifsc-contents.seen r reg (row .lock) (row .index)) value secure
 
 -- a bit that a write takes only where it is 1
 taken-keeps : (r : Rifsc) (reg : RifscRegister) (value : ℕ) (secure : Bool) (i : ℕ) → i < 32
@@ -112,7 +111,7 @@ rifsc-stored : (r : Rifsc) (reg : RifscRegister) (value : ℕ) (secure : Bool)
     → RifscHeld r (rifsc-contents.withStored r reg (wordOf r reg value secure))
 unfolding rifsc-contents.withStored rifsc-contents.stored rifsc.takes
 rifsc-stored r in-rifsc.Cr value secure =
-    record { cr = taken-keeps r in-rifsc.Cr value secure 0 (lit< tt) (λ e. e); rimccr = λ h. h; rcfglockr = λ x i l h. h }
+    record { cr = taken-keeps r in-rifsc.Cr value secure 0 (lit< tt) (and-right (bit (rifsc-registers.rowOf in-rifsc.Cr .named) 0) (bit value 0)); rimccr = λ h. h; rcfglockr = λ x i l h. h }
 rifsc-stored r (in-rifsc.Seccfgr x) value secure = rifsc-still r
 rifsc-stored r (in-rifsc.Privcfgr x) value secure = rifsc-still r
 rifsc-stored r (in-rifsc.Rcfglockr x) value secure =
@@ -122,7 +121,7 @@ rifsc-stored r (in-rifsc.Rcfglockr x) value secure =
       rcfglockr =
           λ y i l.
           stored-keeps (r .rcfglockr) x y _ i
-          (λ e. taken-keeps r (in-rifsc.Rcfglockr x) value secure i l (and-right (bit (ppsr x) i) (bit value i)));
+          (λ e. taken-keeps r (in-rifsc.Rcfglockr x) value secure i l (and-right (bit (rifsc-registers.rowOf (in-rifsc.Rcfglockr x) .named) i) (bit value i)));
     }
 rifsc-stored r in-rifsc.Rimccr value secure =
     record { cr = λ h. h; rimccr = taken-keeps r in-rifsc.Rimccr value secure 0 (lit< tt) (λ e. e); rcfglockr = λ x i l h. h }
@@ -131,7 +130,7 @@ rifsc-stored r (in-rifsc.Ppsr x) value secure = rifsc-still r
 rifsc-stored r in-rifsc.Unknown value secure = rifsc-still r
 
 pub rifsc-written : (r : Rifsc) (reg : RifscRegister) (q : Request)
-    → RifscHeld r (rifsc.written r reg (rifsc-contents.seen r reg (rifsc-registers.rowOf reg .lock) (rifsc-registers.rowOf reg .index)) q)
+    → RifscHeld r (rifsc.written r reg (rifsc-registers.rowOf reg) (rifsc-contents.seen r reg (rifsc-registers.rowOf reg .lock) (rifsc-registers.rowOf reg .index)) q)
 unfolding rifsc.written
 rifsc-written r reg q =
     cond-by (RifscHeld r) (q .write) (rifsc-contents.withStored r reg (wordOf r reg (q .value) (q .secure))) r

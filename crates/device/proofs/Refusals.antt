@@ -15,7 +15,7 @@ use Rattle.access.specs.declared.flag.Flag.{Flag}
 use Rattle.access.specs.declared.kind.Kind.{Kind}
 use Rattle.access.specs.declared.request.Request.{Request}
 use Rattle.rifsc.specs.Contents as rifsc-contents
-use Rattle.rifsc.specs.Masters.{isMaster, carried}
+use Rattle.rifsc.specs.Masters.{isMaster, attributesOf, carried}
 use Rattle.rifsc.specs.Port as rifsc
 use Rattle.rifsc.specs.Registers as rifsc-registers
 use Rattle.rifsc.specs.declared.contents.Rifsc.{Rifsc as RifscWords}
@@ -68,7 +68,7 @@ abbrev rifscWritten : Request → RifscWords → RifscWords
 rifscWritten q r =
     let reg = rifsc-registers.registerAt (q .offset) in
     let row = rifsc-registers.rowOf reg in
-    rifsc.written r reg (rifsc-contents.seen r reg (row .lock) (row .index)) q
+    rifsc.written r reg row (rifsc-contents.seen r reg (row .lock) (row .index)) q
 
 abbrev iacWritten : Request → IacWords → IacWords
 iacWritten q i =
@@ -120,7 +120,7 @@ refused Reset s = s
 refused (Register a) s = registerRefused (a .block) s
 refused (Peripheral a) s = flagged (record { 0 = a .peripheral .0 }) s
 refused (Memory a) s = memoryRefused (a .guard .0) (a .offset) (a .kind) s
-refused (Master a) s = memoryRefused (a .guard .0) (a .offset) (carried (s .rifsc) (a .master) (a .write)) s
+refused (Master a) s = memoryRefused (a .guard .0) (a .offset) (carried (attributesOf (s .rifsc) (a .master)) (a .write)) s
 
 -- ---- any event leaves one of the two, or what was there
 
@@ -165,7 +165,7 @@ step-leaves (Register a) s = register-leaves (a .block) (a .request) s
 step-leaves (Peripheral a) s = refl
 step-leaves (Memory a) s = memory-leaves true (a .guard .0) (a .offset) (a .width) (a .kind) s
 step-leaves (Master a) s =
-    memory-leaves (isMaster (a .master)) (a .guard .0) (a .offset) (a .width) (carried (s .rifsc) (a .master) (a .write)) s
+    memory-leaves (isMaster (a .master)) (a .guard .0) (a .offset) (a .width) (carried (attributesOf (s .rifsc) (a .master)) (a .write)) s
 
 -- P of what an event leaves
 pub step-by : (P : State → Type 0) (e : Event) (s : State) → P s → ((v : ℕ) → step e s .answer ≡ Done v → P (effect e s))
@@ -183,12 +183,7 @@ refusal-leaves e s h =
 
 raise-ier : (i : Flag) (s : IacWords) → raise i s .ier ≡ s .ier
 unfolding raise
-raise-ier i s = by (bitAt iisrs (i .0))
-  where
-    by : (t : Bool)
-        → cond t (withIsr s (i .0 / 32) (withBit 32 (getD (s .isr) (i .0 / 32) 0) (i .0 % 32) true)) s .ier ≡ s .ier
-    by true = refl
-    by false = refl
+raise-ier i s = refl
 
 flag-kept : (i : Flag) (s : State) → settings (flagged i s) ≡ settings s
 unfolding settings
@@ -217,7 +212,7 @@ refused-kept Reset s = refl
 refused-kept (Register a) s = register-refused (a .block) s
 refused-kept (Peripheral a) s = flag-kept (record { 0 = a .peripheral .0 }) s
 refused-kept (Memory a) s = memory-refused (a .guard .0) (a .offset) (a .kind) s
-refused-kept (Master a) s = memory-refused (a .guard .0) (a .offset) (carried (s .rifsc) (a .master) (a .write)) s
+refused-kept (Master a) s = memory-refused (a .guard .0) (a .offset) (carried (attributesOf (s .rifsc) (a .master)) (a .write)) s
 
 pub refused-leaves : (e : Event) (s : State) → numberOf (step e s .answer) ≡ 1 → settings (step e s .next) ≡ settings s
 refused-leaves e s h =

@@ -9,8 +9,8 @@ use Rattle.access.specs.declared.checks.Checks.{Checks}
 use Rattle.access.specs.declared.flag.Flag.{Flag}
 use Rattle.access.specs.declared.kind.Kind.{Kind}
 use Rattle.access.specs.declared.request.Request.{Request}
-use Rattle.rifsc.specs.Masters.{isMaster, carried}
-use Rattle.rifsc.specs.Peripherals.{exists, grants}
+use Rattle.rifsc.specs.Masters.{isMaster, attributesOf, carried}
+use Rattle.rifsc.specs.Peripherals.{exists, filterOf, grants}
 use Rattle.rifsc.specs.Port as rifsc
 use Rattle.iac.specs.Port as iac
 use Rattle.risaf.specs.Guards.{shapeOf}
@@ -68,7 +68,7 @@ peripheralChecks a s =
       inside = true;
       fetchless = not (fetches (a .operation));
       known = true;
-      allowed = grants (s .rifsc) (a .peripheral) (a .secure) (a .privileged);
+      allowed = grants (filterOf (s .rifsc) (a .peripheral)) (a .secure) (a .privileged);
       direction = true;
       unlocked = true;
     }
@@ -92,4 +92,5 @@ step (Register a) s = registerStep (a .block) (a .request) s
 step (Peripheral a) s = peripheralStep a s
 step (Memory a) s = memoryStep true (a .guard .0) (a .offset) (a .width) (a .kind) s
 step (Master a) s =
-    memoryStep (isMaster (a .master)) (a .guard .0) (a .offset) (a .width) (carried (s .rifsc) (a .master) (a .write)) s
+    let k = carried (attributesOf (s .rifsc) (a .master)) (a .write) in
+    memoryStep (isMaster (a .master)) (a .guard .0) (a .offset) (a .width) k s

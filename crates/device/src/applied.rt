@@ -1,5 +1,5 @@
 use crate::blocks::load_iac;
-use crate::blocks::load_rifsc;
+use crate::controller::load_attributes;
 use crate::event::Block;
 use crate::event::Event;
 use crate::event::MasterAccess;
@@ -88,7 +88,7 @@ pub fn apply_master(state: &mut [u32], a: MasterAccess) -> Answer
         return Answer::Rejected(Why::WrongLength);
     }
     let master = a.master;
-    let kind = load_rifsc(state).carried(master, a.write);
+    let kind = load_attributes(state, master).carried(a.write);
     access_memory(state, master.exists(), a.guard, a.offset, a.width, kind)
 }
 

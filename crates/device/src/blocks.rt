@@ -7,7 +7,6 @@ use crate::layout::PRIVCFGR;
 use crate::layout::RCFGLOCKR;
 use crate::layout::RIMC_CR;
 use crate::layout::SECCFGR;
-use access::Flag;
 use iac::Iac;
 use rifsc::MASTERS;
 use rifsc::Rifsc;
@@ -19,7 +18,7 @@ ghost use lib.Seq.{paste};
 ghost use Rattle.words.specs.Six.{bitWords};
 ghost use Rattle.rifsc.specs.Masters.{masters};
 ghost use Rattle.device.specs.Layout.{stateOf, stateWords};
-ghost use Rattle.device.specs.State.{flagged, withIac, withRifsc};
+ghost use Rattle.device.specs.State.{withIac, withRifsc};
 
 // Copies words to dst, from index at on.
 pub(crate) fn put(dst: &mut [u32], at: usize, words: &[u32])
@@ -41,16 +40,6 @@ fn six(state: &[u32], at: usize) -> [u32; BIT_WORDS]
     words
 }
 
-// A word of each master, from at on.
-fn attr(state: &[u32], at: usize) -> [u32; MASTERS]
-    requires { ⌜ at + masters ≤ length (now state) ⌝ }
-    ensures { λ r. ⌜ r ≡ take masters (drop at (now (state .entry))) ⌝ }
-{
-    let mut words = [0u32; MASTERS];
-    put(&mut words, 0, &state[at..at + MASTERS]);
-    words
-}
-
 // Stores six words from at on.
 fn store_six(state: &mut [u32], at: usize, words: [u32; BIT_WORDS])
     requires { ⌜ at + bitWords ≤ length (now state) ⌝ }
@@ -65,20 +54,6 @@ fn store_attr(state: &mut [u32], at: usize, words: [u32; MASTERS])
     ensures { λ _. ⌜ (length words ≡ masters) × (now (state .exit) ≡ paste (now (state .entry)) at words (length words)) ⌝ }
 {
     put(state, at, &words);
-}
-
-pub(crate) fn load_rifsc(state: &[u32]) -> Rifsc
-    requires { ⌜ length (now state) ≡ stateWords ⌝ }
-    ensures { λ r. ⌜ r ≡ stateOf (now (state .entry)) .rifsc ⌝ }
-{
-    Rifsc {
-        cr: state[CR],
-        seccfgr: six(state, SECCFGR),
-        privcfgr: six(state, PRIVCFGR),
-        rcfglockr: six(state, RCFGLOCKR),
-        rimccr: state[RIMC_CR],
-        attr: attr(state, ATTR),
-    }
 }
 
 pub(crate) fn store_rifsc(state: &mut [u32], r: Rifsc)
@@ -115,12 +90,4 @@ pub(crate) fn store_iac(state: &mut [u32], i: Iac)
     let isr = i.isr;
     store_six(state, IER, ier);
     store_six(state, ISR, isr);
-}
-
-// Raises a flag.
-pub(crate) fn raise(state: &mut [u32], flag: Flag)
-    requires { ⌜ length (now state) ≡ stateWords ⌝ }
-    ensures { λ _. ⌜ stateOf (now (state .exit)) ≡ flagged flag (stateOf (now (state .entry))) ⌝ }
-{
-    store_iac(state, load_iac(state).raise(flag));
 }

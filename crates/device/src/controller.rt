@@ -1,4 +1,4 @@
-// The controller's registers in the state's memory: what an access to one needs by value, and the word that it leaves.
+// The controller in the state's memory: what an access needs of it by value, and the word that it leaves.
 use crate::layout::ATTR;
 use crate::layout::CR;
 use crate::layout::PRIVCFGR;
@@ -7,8 +7,12 @@ use crate::layout::RIMC_CR;
 use crate::layout::SECCFGR;
 use crate::part_words::store_in;
 use crate::part_words::word_in;
+use rifsc::Attributes;
+use rifsc::Filter;
 use rifsc::Lock;
 use rifsc::MASTERS;
+use rifsc::MasterNumber;
+use rifsc::PeripheralNumber;
 use rifsc::Register;
 use rifsc::Row;
 use rifsc::Seen;
@@ -16,6 +20,8 @@ use words::BIT_WORDS;
 ghost use mathlib.Core.Path.{_≡_};
 ghost use lib.ListN.{length};
 ghost use Rattle.rifsc.specs.Contents.{isLocked, seen, stored, withStored};
+ghost use Rattle.rifsc.specs.Masters.{attributesOf};
+ghost use Rattle.rifsc.specs.Peripherals.{filterOf};
 ghost use Rattle.device.specs.Layout.{stateOf, stateWords};
 ghost use Rattle.device.specs.State.{withRifsc};
 
@@ -75,5 +81,27 @@ pub(crate) fn store_register(state: &mut [u32], reg: Register, v: u32)
         Register::Attr(m) => store_in(state, ATTR, MASTERS, m, v),
         Register::Ppsr(_) => {}
         Register::Unknown => {}
+    }
+}
+
+// What the filter holds of a peripheral.
+pub(crate) fn load_filter(state: &[u32], p: PeripheralNumber) -> Filter
+    requires { ⌜ length (now state) ≡ stateWords ⌝ }
+    ensures { λ r. ⌜ r ≡ filterOf (stateOf (now (state .entry)) .rifsc) p ⌝ }
+{
+    let x = (p.0 / 32) as usize;
+    Filter {
+        sec: words::bit_of(word_in(state, SECCFGR, BIT_WORDS, x), p.0 % 32),
+        privileged: words::bit_of(word_in(state, PRIVCFGR, BIT_WORDS, x), p.0 % 32),
+    }
+}
+
+// What is held of a master.
+pub(crate) fn load_attributes(state: &[u32], m: MasterNumber) -> Attributes
+    requires { ⌜ length (now state) ≡ stateWords ⌝ }
+    ensures { λ r. ⌜ r ≡ attributesOf (stateOf (now (state .entry)) .rifsc) m ⌝ }
+{
+    Attributes {
+        attr: word_in(state, ATTR, MASTERS, m.0 as usize),
     }
 }

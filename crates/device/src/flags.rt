@@ -3,13 +3,15 @@ use crate::layout::IER;
 use crate::layout::ISR;
 use crate::part_words::store_in;
 use crate::part_words::word_in;
+use access::Flag;
 use iac::Register;
+use iac::Seen;
 use words::BIT_WORDS;
 ghost use mathlib.Core.Path.{_≡_};
 ghost use lib.ListN.{length};
 ghost use Rattle.iac.specs.Contents.{stored, withStored};
 ghost use Rattle.device.specs.Layout.{stateOf, stateWords};
-ghost use Rattle.device.specs.State.{withIac};
+ghost use Rattle.device.specs.State.{flagged, withIac};
 
 // The word stored for a register: for ICR the flags that it clears.
 pub(crate) fn load_flags(state: &[u32], reg: Register) -> u32
@@ -37,4 +39,16 @@ pub(crate) fn store_flags(state: &mut [u32], reg: Register, v: u32)
         Register::Iisr(_) => {}
         Register::Unknown => {}
     }
+}
+
+// Raises a flag, in the word that has its bit.
+pub(crate) fn raise(state: &mut [u32], flag: Flag)
+    requires { ⌜ length (now state) ≡ stateWords ⌝ }
+    ensures { λ _. ⌜ stateOf (now (state .exit)) ≡ flagged flag (stateOf (now (state .entry))) ⌝ }
+{
+    let reg = Register::Icr((flag.0 / 32) as usize);
+    let seen = Seen {
+        word: load_flags(state, reg),
+    };
+    store_flags(state, reg, seen.raise(flag).word);
 }

@@ -1,4 +1,4 @@
-use crate::blocks::raise;
+use crate::flags::raise;
 use crate::guards::load_faults;
 use crate::guards::store_faults;
 use crate::layout::region_words;

@@ -1,7 +1,7 @@
-use crate::blocks::load_rifsc;
-use crate::blocks::raise;
+use crate::controller::load_filter;
 use crate::event::Operation;
 use crate::event::PeripheralAccess;
+use crate::flags::raise;
 use access::Answer;
 use access::Checks;
 use access::Flag;
@@ -32,7 +32,7 @@ fn checks_of(state: &[u32], a: PeripheralAccess) -> Checks
         inside: true,
         fetchless: !is_fetch(operation),
         known: true,
-        allowed: load_rifsc(state).grants(p, a.secure, a.privileged),
+        allowed: load_filter(state, p).grants(a.secure, a.privileged),
         direction: true,
         unlocked: true,
     }

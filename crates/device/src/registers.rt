@@ -1,7 +1,7 @@
-use crate::blocks::raise;
 use crate::controller::load_seen;
 use crate::controller::store_register;
 use crate::flags::load_flags;
+use crate::flags::raise;
 use crate::flags::store_flags;
 use crate::guards::load_port;
 use crate::guards::store_word;

@@ -9,11 +9,14 @@ use Rattle.access.specs.declared.flag.Flag.{Flag}
 use Rattle.iac.specs.Registers.{iisr, iisrs}
 use Rattle.iac.specs.Contents.{withIsr}
 use Rattle.iac.specs.declared.contents.Iac.{Iac}
+use Rattle.iac.specs.declared.port.Seen.{Seen}
 
--- raising index i sets ISR bit i if IISR bit i is 1, else nothing
+-- raising index i sets ISR bit i if IISR bit i is 1, else nothing; v is the word of ISR that has the bit
+unfoldable pub raised : Flag → Seen → Seen
+raised i v = cond (bitAt iisrs (i .0)) (record { word = withBit 32 (v .word) (i .0 % 32) true }) v
+
 unfoldable pub raise : Flag → Iac → Iac
-raise i s =
-    cond (bitAt iisrs (i .0)) (withIsr s (i .0 / 32) (withBit 32 (getD (s .isr) (i .0 / 32) 0) (i .0 % 32) true)) s
+raise i s = withIsr s (i .0 / 32) (raised i (record { word = getD (s .isr) (i .0 / 32) 0 }) .word)
 
 -- some flag of ISRx and its enable of IERx are both 1; the words are those two
 unfoldable pub lineOf : ℕ → ℕ → ℕ → Bool

@@ -1,30 +1,27 @@
 use crate::Iac;
+use crate::port::Seen;
 use crate::registers::FLAGS;
 use crate::registers::iisr;
 use access::Flag;
 ghost use mathlib.Core.Path.{_≡_};
 ghost use lib.ListN.{getD};
-ghost use Rattle.iac.specs.Flags.{line, lineOf, raise};
+ghost use Rattle.iac.specs.Flags.{line, lineOf, raised};
 
-impl Iac {
-    // With a flag raised; as it was where the index is not one of a flag.
+impl Seen {
+    // The word that has a flag's bit, with the flag raised; as it was where the index is not one of a flag.
     pub fn raise(mut self, flag: Flag) -> Self
-        ensures { λ r. ⌜ r ≡ raise flag self ⌝ }
+        ensures { λ r. ⌜ r ≡ raised flag self ⌝ }
     {
         let i = flag.0;
         if words::bit_at(FLAGS, i) {
-            let x = (i / 32) as usize;
-            let old = self.isr;
-            let new = words::with_word(
-                old,
-                x,
-                words::with_bit(words::word_at(old, x), i % 32, true),
-            );
-            self.isr = new;
+            let word = words::with_bit(self.word, i % 32, true);
+            self.word = word;
         }
         self
     }
+}
 
+impl Iac {
     // Some flag of ISRx and its enable of IERx are both 1.
     fn line_at(self, x: usize) -> bool
         ensures { λ r. ⌜ r ≡ lineOf x (getD (self .isr) x 0) (getD (self .ier) x 0) ⌝ }

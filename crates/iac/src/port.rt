@@ -4,10 +4,14 @@ use crate::registers::iisr;
 use access::Answer;
 use access::Checks;
 use access::Request;
+ghost use mathlib.Core.Bool.{_&&_, _||_, not, true};
 ghost use mathlib.Core.Path.{_≡_};
+ghost use Prim.Native.Nat.{_%_};
+ghost use lib.Dec.{eqb};
 ghost use Rattle.iac.specs.Port.{accessed, answerOf, wordWritten};
 
-// What an access to a register needs of the IAC, by value: the register's own word, for ICR the flags that it clears.
+// What an access to a register, or a flag raised, needs of the IAC, by value: the register's own word, for ICR and a flag the word of
+// ISR.
 pub struct Seen {
     pub word: u32,
 }
@@ -31,22 +35,31 @@ fn word_written(reg: Register, old: u32, value: u32) -> u32
     }
 }
 
-// The answer to an access to a register with this row, whose stored word is old.
-fn answer(row: Row, old: u32, q: Request) -> Answer
-    ensures { λ r. ⌜ r ≡ answerOf row old q ⌝ }
+// The checks of an access to a register with this row; it can be written, or read, by direction.
+fn checks(row: Row, q: Request, direction: bool) -> Checks
+    ensures { λ r. ⌜ r ≡ record { present = true; aligned = eqb (q .offset % 4) 0; inside = true; fetchless = true; known = row .known; allowed = not (row .guarded) || q .secure && q .privileged; direction = direction; unlocked = true } ⌝ }
 {
-    let checks = Checks {
+    Checks {
         present: true,
         aligned: q.offset % 4 == 0,
         inside: true,
         fetchless: true,
         known: row.known,
         allowed: !row.guarded | (q.secure & q.privileged),
-        direction: (q.write & row.writable) | (!q.write & row.readable),
+        direction,
         unlocked: true,
-    };
+    }
+}
+
+// The answer to an access to a register with this row, whose stored word is old.
+fn answer(row: Row, old: u32, q: Request) -> Answer
+    ensures { λ r. ⌜ r ≡ answerOf row old q ⌝ }
+{
+    if q.write {
+        return checks(row, q, row.writable).answer(0);
+    }
     let read = words::united(words::masked(old, row.named), row.fixed);
-    checks.answer(q.gives(read))
+    checks(row, q, row.readable).answer(read)
 }
 
 impl Seen {

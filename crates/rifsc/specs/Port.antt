@@ -10,7 +10,7 @@ use Rattle.access.specs.Request.{gives}
 use Rattle.access.specs.declared.answer.Answer.{Answer}
 use Rattle.access.specs.declared.checks.Checks.{Checks}
 use Rattle.access.specs.declared.request.Request.{Request}
-use Rattle.rifsc.specs.Registers.{registerAt, ppsr, rowOf}
+use Rattle.rifsc.specs.Registers.{registerAt, rowOf}
 use Rattle.rifsc.specs.Contents.{withStored, seen}
 use Rattle.rifsc.specs.declared.registers.Row.{Row}
 use Rattle.rifsc.specs.declared.registers.Register.{Register}
@@ -30,26 +30,28 @@ readOf row stored = united 32 (masked 32 stored (row .named)) (row .fixed)
 abbrev pub attrBits : ℕ → ℕ
 attrBits value = cond (eqb (field value 4 3) (debugger .0)) 0x0000_0300 0x0000_0370
 
-unfoldable pub takes : Register → Seen → ℕ → Bool → ℕ → Bool
+unfoldable pub takes : Register → Row → Seen → ℕ → Bool → ℕ → Bool
 -- a lock bit is set by 1 and not cleared by 0
-takes Cr v value secure i = bit 0x0000_0001 i && bit value i
-takes (Rcfglockr x) v value secure i = bit (ppsr x) i && bit value i
+takes Cr row v value secure i = bit (row .named) i && bit value i
+takes (Rcfglockr x) row v value secure i = bit (row .named) i && bit value i
 -- a SEC or PRIV bit whose RLOCK is set keeps its old content; a PRIV bit whose SEC is set takes only a secure write
-takes (Seccfgr x) v value secure i = bit (ppsr x) i && not (bit (v .rlock) i)
-takes (Privcfgr x) v value secure i = bit (ppsr x) i && not (bit (v .rlock) i) && (secure || not (bit (v .sec) i))
+takes (Seccfgr x) row v value secure i = bit (row .named) i && not (bit (v .rlock) i)
+takes (Privcfgr x) row v value secure i =
+    bit (row .named) i && not (bit (v .rlock) i) && (secure || not (bit (v .sec) i))
 -- DAPCID (10:8) is taken, and GLOCK is a lock bit
-takes Rimccr v value secure i = bit 0x0000_0700 i || bit 0x0000_0001 i && bit value i
-takes (Attr m) v value secure i = bit (attrBits value) i
-takes (Ppsr x) v value secure i = false
-takes Unknown v value secure i = false
+takes Rimccr row v value secure i = bit 0x0000_0700 i || bit 0x0000_0001 i && bit value i
+takes (Attr m) row v value secure i = bit (attrBits value) i
+takes (Ppsr x) row v value secure i = false
+takes Unknown row v value secure i = false
 
-unfoldable pub wordWritten : Register → Seen → ℕ → Bool → ℕ
-wordWritten reg v value secure = word 32 (λ i. cond (takes reg v value secure i) (bit value i) (bit (v .word) i))
+unfoldable pub wordWritten : Register → Row → Seen → ℕ → Bool → ℕ
+wordWritten reg row v value secure =
+    word 32 (λ i. cond (takes reg row v value secure i) (bit value i) (bit (v .word) i))
 
 -- ---- the checks, in their order; any read is allowed, a write needs privileged and, but for PRIVCFGR, secure
 
-unfoldable pub checksOf : Row → Seen → Request → Checks
-checksOf row v q =
+unfoldable pub checksOf : Row → Bool → Request → Checks
+checksOf row locked q =
     record {
       present = true;
       aligned = eqb (q .offset % 4) 0;
@@ -58,11 +60,11 @@ checksOf row v q =
       known = row .known;
       allowed = not (q .write) || q .privileged && (q .secure || not (row .secure));
       direction = not (q .write) || row .writable;
-      unlocked = not (q .write) || not (v .locked);
+      unlocked = not (q .write) || not locked;
     }
 
-unfoldable pub answerOf : Row → Seen → Request → Answer
-answerOf row v q = answered (checksOf row v q) (gives q (readOf row (v .word)))
+unfoldable pub answerOf : Row → Bool → ℕ → Request → Answer
+answerOf row locked stored q = answered (checksOf row locked q) (gives q (readOf row stored))
 
 -- ---- an access to what it needs of the controller, by value
 
@@ -71,16 +73,16 @@ withSeenWord v w = record { locked = v .locked; rlock = v .rlock; sec = v .sec; 
 
 unfoldable pub accessed : Register → Row → Seen → Request → Accessed
 accessed reg row v q =
-    let a = answerOf row v q in
+    let a = answerOf row (v .locked) (v .word) q in
     record {
-      next = left a v (cond (q .write) (withSeenWord v (wordWritten reg v (q .value) (q .secure))) v) v;
+      next = left a v (cond (q .write) (withSeenWord v (wordWritten reg row v (q .value) (q .secure))) v) v;
       answer = a;
     }
 
 -- ---- what an access leaves; a refusal leaves the controller as it was, and its flag is the IAC's
 
-unfoldable pub written : Rifsc → Register → Seen → Request → Rifsc
-written r reg v q = cond (q .write) (withStored r reg (wordWritten reg v (q .value) (q .secure))) r
+unfoldable pub written : Rifsc → Register → Row → Seen → Request → Rifsc
+written r reg row v q = cond (q .write) (withStored r reg (wordWritten reg row v (q .value) (q .secure))) r
 
 pub record Stepped : Type 0 where
   pub next : Rifsc
@@ -91,5 +93,5 @@ stepped r q =
     let reg = registerAt (q .offset) in
     let row = rowOf reg in
     let v = seen r reg (row .lock) (row .index) in
-    let a = answerOf row v q in
-    record { next = left a r (written r reg v q) r; answer = a }
+    let a = answerOf row (v .locked) (v .word) q in
+    record { next = left a r (written r reg row v q) r; answer = a }

@@ -1,7 +1,6 @@
 use crate::masters::MASTERS;
 use words::BIT_WORDS;
 ghost use mathlib.Core.Path.{_≡_};
-ghost use lib.ListN.{getD};
 ghost use Rattle.rifsc.specs.Contents.{reset};
 
 // The controller's registers as stored, whole words.
@@ -16,13 +15,6 @@ pub struct Rifsc {
 
 // RIMC_CR at reset.
 const RIMC_RESET: u32 = 0x0000_0710;
-
-// ATTR of master m; past the last there is none.
-pub(crate) fn attr_at(attr: [u32; MASTERS], m: usize) -> u32
-    ensures { λ r. ⌜ r ≡ getD attr m 0 ⌝ }
-{
-    if m < MASTERS { attr[m] } else { 0 }
-}
 
 impl Rifsc {
     pub fn reset() -> Self

@@ -6,8 +6,10 @@ pub mod port;
 pub mod registers;
 
 pub use contents::Rifsc;
+pub use masters::Attributes;
 pub use masters::MASTERS;
 pub use masters::MasterNumber;
+pub use peripherals::Filter;
 pub use peripherals::PeripheralNumber;
 pub use port::Seen;
 pub use registers::Lock;

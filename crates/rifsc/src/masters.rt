@@ -1,5 +1,3 @@
-use crate::Rifsc;
-use crate::contents::attr_at;
 use access::Cid;
 use access::Kind;
 ghost use mathlib.Core.Path.{_≡_};
@@ -27,18 +25,21 @@ impl MasterNumber {
     }
 }
 
-impl Rifsc {
-    // The kind of asking of a master's access.
-    pub fn carried(self, m: MasterNumber, write: bool) -> Kind
-        ensures { λ r. ⌜ r ≡ carried self m write ⌝ }
+// What the controller holds of one master: its ATTR.
+pub struct Attributes {
+    pub attr: u32,
+}
+
+impl Attributes {
+    // The kind of asking of the master's access.
+    pub fn carried(self, write: bool) -> Kind
+        ensures { λ r. ⌜ r ≡ carried self write ⌝ }
     {
-        let attrs = self.attr;
-        let attr = attr_at(attrs, m.0 as usize);
         Kind {
-            cid: Cid(words::field_of(attr, MCID_AT, MCID_WIDE)),
+            cid: Cid(words::field_of(self.attr, MCID_AT, MCID_WIDE)),
             write,
-            privileged: words::bit_of(attr, MPRIV),
-            secure: words::bit_of(attr, MSEC),
+            privileged: words::bit_of(self.attr, MPRIV),
+            secure: words::bit_of(self.attr, MSEC),
         }
     }
 }

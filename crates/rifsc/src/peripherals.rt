@@ -1,4 +1,3 @@
-use crate::Rifsc;
 use crate::registers::PERIPHERALS;
 ghost use mathlib.Core.Path.{_≡_};
 ghost use Rattle.rifsc.specs.Peripherals.{exists, grants};
@@ -13,17 +12,24 @@ impl PeripheralNumber {
     pub fn exists(self) -> bool
         ensures { λ r. ⌜ r ≡ exists self ⌝ }
     {
-        (self.0 < PERIPHERAL_NUMBERS) & words::bit_at(PERIPHERALS, self.0)
+        if PERIPHERAL_NUMBERS <= self.0 {
+            return false;
+        }
+        words::bit_at(PERIPHERALS, self.0)
     }
 }
 
-impl Rifsc {
-    // Whether SEC and PRIV of a peripheral let an access pass.
-    pub fn grants(self, p: PeripheralNumber, secure: bool, privileged: bool) -> bool
-        ensures { λ r. ⌜ r ≡ grants self p secure privileged ⌝ }
+// What the controller holds of one peripheral: its SEC and its PRIV.
+pub struct Filter {
+    pub sec: bool,
+    pub privileged: bool,
+}
+
+impl Filter {
+    // Whether they let an access pass.
+    pub fn grants(self, secure: bool, privileged: bool) -> bool
+        ensures { λ r. ⌜ r ≡ grants self secure privileged ⌝ }
     {
-        let sec = self.seccfgr;
-        let privs = self.privcfgr;
-        (!words::bit_at(sec, p.0) | secure) & (!words::bit_at(privs, p.0) | privileged)
+        (!self.sec | secure) & (!self.privileged | privileged)
     }
 }

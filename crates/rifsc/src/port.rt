@@ -6,13 +6,13 @@ use crate::registers::ATTR_NAMED;
 use crate::registers::DAPCID;
 use crate::registers::GLOCK;
 use crate::registers::Row;
-use crate::registers::ppsr;
 use access::Answer;
 use access::Checks;
 use access::DEBUGGER;
 use access::Request;
 ghost use mathlib.Core.Path.{_≡_};
-ghost use mathlib.Core.Bool.{cond};
+ghost use mathlib.Core.Bool.{cond, true};
+ghost use Prim.Native.Nat.{_%_};
 ghost use lib.Dec.{eqb};
 ghost use Rattle.words.specs.Bit.{field, less, word};
 ghost use Rattle.rifsc.specs.Port.{accessed, answerOf, attrBits, takes};
@@ -54,15 +54,15 @@ fn attr_taken(value: u32) -> u32
     ATTR_NAMED
 }
 
-// The bits that a write takes. Of lock bits only those that are 1.
-fn taken(reg: Register, v: Seen, value: u32, secure: bool) -> u32
-    ensures { λ r. ⌜ r ≡ word 32 (takes reg v value secure) ⌝ }
+// The bits that a write to a register with this row takes. Of lock bits only those that are 1.
+fn taken(reg: Register, row: Row, v: Seen, value: u32, secure: bool) -> u32
+    ensures { λ r. ⌜ r ≡ word 32 (takes reg row v value secure) ⌝ }
 {
     match reg {
-        Register::Cr => words::masked(value, GLOCK),
-        Register::Seccfgr(x) => words::without(ppsr(x), v.rlock),
-        Register::Privcfgr(x) => unless_sec(words::without(ppsr(x), v.rlock), v.sec, secure),
-        Register::Rcfglockr(x) => words::masked(value, ppsr(x)),
+        Register::Cr => words::masked(value, row.named),
+        Register::Seccfgr(_) => words::without(row.named, v.rlock),
+        Register::Privcfgr(_) => unless_sec(words::without(row.named, v.rlock), v.sec, secure),
+        Register::Rcfglockr(_) => words::masked(value, row.named),
         Register::Rimccr => words::united(DAPCID, words::masked(value, GLOCK)),
         Register::Attr(_) => attr_taken(value),
         Register::Ppsr(_) => 0,
@@ -70,22 +70,32 @@ fn taken(reg: Register, v: Seen, value: u32, secure: bool) -> u32
     }
 }
 
-// The answer to an access to a register with this row that looks at v. Any read is allowed.
-fn answer(row: Row, v: Seen, q: Request) -> Answer
-    ensures { λ r. ⌜ r ≡ answerOf row v q ⌝ }
+// The checks of an access to a register with this row, by what differs between reads and writes.
+fn checks(row: Row, offset: u32, allowed: bool, direction: bool, unlocked: bool) -> Checks
+    ensures { λ r. ⌜ r ≡ record { present = true; aligned = eqb (offset % 4) 0; inside = true; fetchless = true; known = row .known; allowed = allowed; direction = direction; unlocked = unlocked } ⌝ }
 {
-    let checks = Checks {
+    Checks {
         present: true,
-        aligned: q.offset % 4 == 0,
+        aligned: offset % 4 == 0,
         inside: true,
         fetchless: true,
         known: row.known,
-        allowed: !q.write | (q.privileged & (q.secure | !row.secure)),
-        direction: !q.write | row.writable,
-        unlocked: !q.write | !v.locked,
-    };
-    let read = words::united(words::masked(v.word, row.named), row.fixed);
-    checks.answer(q.gives(read))
+        allowed,
+        direction,
+        unlocked,
+    }
+}
+
+// The answer to an access to a register with this row and this word, which may be locked whole. Any read is allowed.
+fn answer(row: Row, locked: bool, word: u32, q: Request) -> Answer
+    ensures { λ r. ⌜ r ≡ answerOf row locked word q ⌝ }
+{
+    if q.write {
+        let allowed = q.privileged & (q.secure | !row.secure);
+        return checks(row, q.offset, allowed, row.writable, !locked).answer(0);
+    }
+    let read = words::united(words::masked(word, row.named), row.fixed);
+    checks(row, q.offset, true, true, true).answer(read)
 }
 
 impl Seen {
@@ -93,10 +103,14 @@ impl Seen {
     pub fn access(mut self, reg: Register, row: Row, q: Request) -> Accessed
         ensures { λ r. ⌜ r ≡ accessed reg row self q ⌝ }
     {
-        let answer = answer(row, self, q);
+        let answer = answer(row, self.locked, self.word, q);
         if let Answer::Done(_) = answer {
             if q.write {
-                let word = words::merge(self.word, q.value, taken(reg, self, q.value, q.secure));
+                let word = words::merge(
+                    self.word,
+                    q.value,
+                    taken(reg, row, self, q.value, q.secure),
+                );
                 self.word = word;
             }
         }

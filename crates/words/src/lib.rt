@@ -6,7 +6,6 @@ pub mod six;
 
 pub use six::BIT_WORDS;
 pub use six::bit_at;
-pub use six::with_word;
 pub use six::word_at;
 
 // Bit k of x: past the width there is none.

@@ -15,7 +15,7 @@ returns-2 c =
     let a = c .before .before .before .before .before .before .before .before .before .before .before .args in
     let u = c .before .before .access-memory in
     let k = c .before .before .before .before .before .carried .ensures in
-    let l = c .before .before .before .before .before .before .load-rifsc .ensures in
+    let l = c .before .before .before .before .before .before .load-attributes .ensures in
     let x = c .before .before .before .exists .ensures in
     own-length (Master (a .a)) (a .state .now) (c .before .before .before .before .before .before .before .before .before .if1 .left) (u .kept .0) (u .ensures .0 ∙ rw (k, l, x)) (u .ensures .1 ∙ rw (k, l, x))
 

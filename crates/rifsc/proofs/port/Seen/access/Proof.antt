@@ -28,7 +28,7 @@ unfolding accessed
 returns-3 c =
     let a = c .before .before .args in
     let v = a .self in
-    let w = wordWritten (a .reg) v (a .q .value) (a .q .secure) in
+    let w = wordWritten (a .reg) (a .row) v (a .q .value) (a .q .secure) in
     let e = kept (c .before .answer .result) v (cond (a .q .write) (withSeenWord v w) v) (c .match .keys2) in
     simp (← c .before .answer .ensures, e)
 
