@@ -3,6 +3,10 @@ pub mod BlockSteps
 pub mod GuardSteps
 pub mod LockWrites
 pub mod Locks
+pub mod NamedBits
+pub mod NamedDecide
+pub mod NamedPlaces
+pub mod NamedStates
 pub mod PartWords
 pub mod Parts
 pub mod PeripheralSteps

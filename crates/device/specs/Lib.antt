@@ -5,9 +5,11 @@
 --     Locks      meaning: the locks there are, and the settings
 --     Applied    meaning: an event on lent memory
 --     Layout     meaning: the state's memory, part by part
+--     Named      meaning: which bits of the state's memory are named
 pub mod Applied
 pub mod Layout
 pub mod Locks
+pub mod Named
 pub mod Run
 pub mod State
 pub mod Step

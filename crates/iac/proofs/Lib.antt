@@ -1,2 +1,3 @@
 pub mod FlagLaws
+pub mod NamedBits
 pub mod PortLaws

@@ -1,6 +1,7 @@
 -- The laws of a guard's map. For users of the crate:
 --     Demand     demand 3: demand-3
 --     Sheets     the mission's sentence on two like sheets: sheets
+--     NamedMap   named bits decide the maps: named-map
 --     Found      what a lookup in a map finds: finds, finds-own, finds-none
 --     Used       the same of what `fill` leaves and of the part that is handed back
 --     Steady     the map as computed from boundaries: rows-swept; its most rows: rows-most
@@ -13,5 +14,6 @@ pub mod Made
 pub mod Grants
 pub mod Demand
 pub mod Sheets
+pub mod NamedMap
 pub mod Found
 pub mod Used

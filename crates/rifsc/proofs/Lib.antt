@@ -1,1 +1,2 @@
+pub mod NamedBits
 pub mod PortLaws

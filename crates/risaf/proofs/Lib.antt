@@ -1,4 +1,6 @@
 pub mod MemoryAnswer
+pub mod NamedBits
+pub mod NamedMemory
 pub mod PortLaws
 pub mod RegisterMap
 pub mod RowPlaces

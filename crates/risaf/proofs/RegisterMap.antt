@@ -9,7 +9,7 @@ use borrow.Author.Tests.{le-leb, lt-leb, ltb-true, ne-eqb}
 use Rattle.access.specs.Offset.{within}
 use Rattle.regions.specs.Words.{mostRegions}
 use Rattle.risaf.specs.Registers.{blockOf, subRegister, regionRegister, registerAt}
-use Rattle.risaf.specs.Rows.{Placed}
+use Rattle.risaf.specs.Rows.{PlacedIn, Placed}
 use Rattle.risaf.specs.declared.registers.Register.{Register}
 use Rattle.risaf.specs.declared.registers.Register.the-variants.{Unknown}
 
@@ -78,42 +78,52 @@ unfolding registerAt
 region-at n o a b c d e ex et =
     simp (ne-eqb o 0x000 a, ne-eqb o 0x008 b, ne-eqb o 0x00c c, ne-eqb o 0x020 d, ne-eqb o 0x024 e, ← ex, et)
 
--- ---- a register of a guard is one of a region that it can have
+-- ---- a register of a guard is one of a region that it has, and can have
 
-placed : (c : Bool) (a b : Register) → (c ≡ true → Placed a) → Placed b → Placed (cond c a b)
-placed true a b p q = p refl
-placed false a b p q = q
+module _ (m : ℕ) where
+  placed : (c : Bool) (a b : Register) → (c ≡ true → PlacedIn m a) → PlacedIn m b → PlacedIn m (cond c a b)
+  placed true a b p q = p refl
+  placed false a b p q = q
 
-sub-placed : (x s k : ℕ) → x < mostRegions → s < 2 → Placed (subRegister x s k)
-unfolding subRegister
-sub-placed x s k h l =
-    placed (eqb k 0x0) _ _ (λ e. (h, l))
-    (placed (eqb k 0x4) _ _ (λ e. (h, l))
-    (placed (eqb k 0x8) _ _ (λ e. (h, l))
-    (placed (eqb k 0xc) _ _ (λ e. (h, l)) tt)))
+  sub-placed : (x s k : ℕ) → x < m → s < 2 → PlacedIn m (subRegister x s k)
+  unfolding subRegister
+  sub-placed x s k h l =
+      placed (eqb k 0x0) _ _ (λ e. (h, l))
+      (placed (eqb k 0x4) _ _ (λ e. (h, l))
+      (placed (eqb k 0x8) _ _ (λ e. (h, l))
+      (placed (eqb k 0xc) _ _ (λ e. (h, l)) tt)))
 
-region-placed : (x k : ℕ) → x < mostRegions → Placed (regionRegister x k)
-unfolding regionRegister
-region-placed x k h =
-    placed (eqb k 0x0) _ _ (λ e. h)
-    (placed (eqb k 0x4) _ _ (λ e. h)
-    (placed (eqb k 0x8) _ _ (λ e. h)
-    (placed (eqb k 0xc) _ _ (λ e. h)
-    (placed (within 0x10 0x1f k) _ _ (λ e. sub-placed x 0 (k - 0x10) h (lit< tt))
-    (placed (within 0x20 0x2f k) _ _ (λ e. sub-placed x 1 (k - 0x20) h (lit< tt)) tt)))))
+  region-placed : (x k : ℕ) → x < m → PlacedIn m (regionRegister x k)
+  unfolding regionRegister
+  region-placed x k h =
+      placed (eqb k 0x0) _ _ (λ e. h)
+      (placed (eqb k 0x4) _ _ (λ e. h)
+      (placed (eqb k 0x8) _ _ (λ e. h)
+      (placed (eqb k 0xc) _ _ (λ e. h)
+      (placed (within 0x10 0x1f k) _ _ (λ e. sub-placed x 0 (k - 0x10) h (lit< tt))
+      (placed (within 0x20 0x2f k) _ _ (λ e. sub-placed x 1 (k - 0x20) h (lit< tt)) tt)))))
+
+  -- where a block that is the guard's is one of m
+  register-in : (n o : ℕ) → ((ltb (blockOf o) n && ltb (blockOf o) mostRegions) ≡ true → blockOf o < m) → PlacedIn m (registerAt n o)
+  unfolding registerAt
+  register-in n o among =
+      placed (eqb o 0x000) _ _ (λ e. tt)
+      (placed (eqb o 0x008) _ _ (λ e. tt)
+      (placed (eqb o 0x00c) _ _ (λ e. tt)
+      (placed (eqb o 0x020) _ _ (λ e. tt)
+      (placed (eqb o 0x024) _ _ (λ e. tt)
+      (placed (ltb (blockOf o) n && ltb (blockOf o) mostRegions) _ _ (λ e. region-placed (blockOf o) (o % 0x40) (among e)) tt)))))
+
+and-left : (a b : Bool) → (a && b) ≡ true → a ≡ true
+and-left true b e = refl
+and-left false b e = e
 
 and-right : (a b : Bool) → (a && b) ≡ true → b ≡ true
 and-right true b e = e
 and-right false b e = cc
 
 pub register-placed : (n o : ℕ) → Placed (registerAt n o)
-unfolding registerAt
-register-placed n o =
-    placed (eqb o 0x000) _ _ (λ e. tt)
-    (placed (eqb o 0x008) _ _ (λ e. tt)
-    (placed (eqb o 0x00c) _ _ (λ e. tt)
-    (placed (eqb o 0x020) _ _ (λ e. tt)
-    (placed (eqb o 0x024) _ _ (λ e. tt)
-    (placed (ltb (blockOf o) n && ltb (blockOf o) mostRegions) _ _
-    (λ e. region-placed (blockOf o) (o % 0x40) (ltb-true _ _ (and-right (ltb (blockOf o) n) (ltb (blockOf o) mostRegions) e)))
-    tt)))))
+register-placed n o = register-in mostRegions n o (λ e. ltb-true _ _ (and-right (ltb (blockOf o) n) (ltb (blockOf o) mostRegions) e))
+
+pub register-own : (n o : ℕ) → PlacedIn n (registerAt n o)
+register-own n o = register-in n n o (λ e. ltb-true _ _ (and-left (ltb (blockOf o) n) (ltb (blockOf o) mostRegions) e))

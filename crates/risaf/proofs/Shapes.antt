@@ -12,7 +12,7 @@ use Rattle.risaf.specs.Guards.{Row, guards, guardCount, shaped, flagOf, 
 use Rattle.risaf.specs.declared.guards.Shape.{Shape}
 
 -- a row past the table's end
-abbrev noRow : Row
+abbrev pub noRow : Row
 noRow = record { number = 0; regions = 0; window = 0 }
 
 abbrev rowAt : List Row → ℕ → Row

@@ -116,9 +116,13 @@ rowOf Unknown =
       nest = 0;
     }
 
--- the indices are of a region that a guard can have: what code goes by
+-- the register is one of a guard with n base regions
+abbrev pub PlacedIn : ℕ → Register → Type 0
+PlacedIn n (OfHead head) = Unit {0}
+PlacedIn n (OfBase x field) = x < n
+PlacedIn n (OfSub x s field) = (x < n) × (s < 2)
+PlacedIn n Unknown = Unit {0}
+
+-- of any guard: what code goes by
 abbrev pub Placed : Register → Type 0
-Placed (OfHead head) = Unit {0}
-Placed (OfBase x field) = x < mostRegions
-Placed (OfSub x s field) = (x < mostRegions) × (s < 2)
-Placed Unknown = Unit {0}
+Placed reg = PlacedIn mostRegions reg

@@ -1,3 +1,4 @@
+pub mod Alike
 pub mod Known
 pub mod Laws
 pub mod Masks
