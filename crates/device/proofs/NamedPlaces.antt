@@ -33,7 +33,7 @@ use Rattle.risaf.specs.declared.registers.Head.the-variants.{Cr, Iasr, Iacr, Ia
 use Rattle.risaf.specs.declared.registers.BaseField.the-variants.{Cfgr, Start, End, Cidcfgr}
 use Rattle.risaf.specs.declared.registers.SubField.the-variants.{SubCfgr, SubStart, SubEnd, Nest}
 use Rattle.risaf.specs.declared.registers.Register.the-variants.{OfHead, OfBase, OfSub, Unknown}
-use Rattle.risaf.proofs.NamedBits as risaf-named
+use Rattle.risaf.proofs.NamedWords as risaf-named
 use Rattle.risaf.proofs.Shapes.{noRow, by-guard, regions-most}
 use Rattle.device.specs.Layout.{placeIn, headSizes, guardsAt, stateWords, rimccrPart, attrPart, isrPart, joined, layout, partsOf, stateOf}
 use Rattle.device.specs.Named.{firsts, namedSub, namedRegion, namedGuard, namedState, namedOf}

@@ -9,8 +9,8 @@ use Rattle.iac.proofs.NamedBits as iac
 use Rattle.risaf.specs.Contents.{guardWords, guardFrom}
 use Rattle.risaf.specs.Guards.{shapeOf}
 use Rattle.risaf.specs.declared.contents.Guard.{Guard}
-use Rattle.risaf.proofs.NamedBits as risaf
-use Rattle.risaf.proofs.NamedBits.{words-alike, from-alike}
+use Rattle.risaf.proofs.NamedWords as risaf
+use Rattle.risaf.proofs.NamedWords.{words-alike, from-alike}
 use Rattle.device.specs.Layout.{headSizes, guardSizes, guardsAt, crPart, seccfgrPart, privcfgrPart, rcfglockrPart, rimccrPart, attrPart, ierPart, isrPart, stateWords, partsOf, joined, layout, stateOf}
 use Rattle.device.specs.Named.{namedState}
 use Rattle.device.specs.State.{State, guardAt, guardOf, withGuard}

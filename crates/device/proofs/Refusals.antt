@@ -107,7 +107,7 @@ effect (Master a) s = s
 abbrev guardRefused : Guard → Guard
 guardRefused g = withWord g iasrAt (withBit 32 (g .iasr) 0 true)
 
-unfoldable pub registerRefused : Block → State → State
+registerRefused : Block → State → State
 registerRefused Rifsc s = flagged rifscFlag s
 registerRefused Iac s = flagged iacFlag s
 registerRefused (Risaf n) s = flagged (shapeOf (n .0) .flag) (withGuard s (n .0) (guardRefused (guardOf s (n .0))))
@@ -115,7 +115,7 @@ registerRefused (Risaf n) s = flagged (shapeOf (n .0) .flag) (withGuard s (n .0)
 abbrev memoryRefused : ℕ → ℕ → Kind → State → State
 memoryRefused n o k s = flagged (shapeOf n .flag) (withGuard s n (faulted (guardOf s n) o k))
 
-unfoldable pub refused : Event → State → State
+pub refused : Event → State → State
 refused Reset s = s
 refused (Register a) s = registerRefused (a .block) s
 refused (Peripheral a) s = flagged (record { 0 = a .peripheral .0 }) s
@@ -145,7 +145,7 @@ register-leaves (Risaf n) q s =
     ∙ left-part a s p (portWritten row p q) (refusedPort p) (λ o. withGuard s (n .0) (guardWith row q g o))
     (λ o. flagged flag (withGuard s (n .0) (withWord g iasrAt (o .iasr))))
 
-pub withGuard-same : (s : State) (n : ℕ) → withGuard s n (guardOf s n) ≡ s
+withGuard-same : (s : State) (n : ℕ) → withGuard s n (guardOf s n) ≡ s
 unfolding withGuard guardOf
 withGuard-same s n = guard-same s (shapeOf n .place)
 
@@ -158,7 +158,7 @@ memory-leaves there n o width k s =
     left-part a s g g (faulted g o k) (withGuard s n) (λ h. flagged (shapeOf n .flag) (withGuard s n h))
     ∙ ap (λ (t : State). left a s t (memoryRefused n o k s)) (withGuard-same s n)
 
-pub step-leaves : (e : Event) (s : State) → step e s .next ≡ left (step e s .answer) s (effect e s) (refused e s)
+step-leaves : (e : Event) (s : State) → step e s .next ≡ left (step e s .answer) s (effect e s) (refused e s)
 unfolding step effect refused peripheralStep
 step-leaves Reset s = refl
 step-leaves (Register a) s = register-leaves (a .block) (a .request) s

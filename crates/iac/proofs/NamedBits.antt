@@ -9,13 +9,16 @@ use lib.Seq.{set-getD}
 use Rattle.words.specs.Bit.{bit, withBit}
 use Rattle.words.specs.Six.{bitAt, bitWords}
 use Rattle.words.proofs.Alike.{Within, Kept, Same, within-not, kept-refl, same-refl, kept-word, same-word, kept-merged, same-merged, kept-set, same-set, same-masked, Each, each-get, each-set}
+use Rattle.access.specs.Answer.{left}
+use Rattle.access.specs.declared.answer.Answer.{Answer}
+use Rattle.access.specs.declared.answer.Answer.the-variants.{Done, Refused, Rejected}
 use Rattle.access.specs.declared.flag.Flag.{Flag}
 use Rattle.access.specs.declared.request.Request.{Request}
 use Rattle.access.proofs.Folds.{any-same}
-use Rattle.iac.specs.Contents.{stored, withIsr, withStored}
+use Rattle.iac.specs.Contents.{stored, withStored}
 use Rattle.iac.specs.Flags.{raised, raise, lineOf, line}
-use Rattle.iac.specs.Port.{readOf, wordWritten, answerOf, written}
-use Rattle.iac.specs.Registers.{iisr, iisrs, rowOf}
+use Rattle.iac.specs.Port.{readOf, wordWritten, answerOf, written, stepped}
+use Rattle.iac.specs.Registers.{registerAt, iisr, iisrs, rowOf}
 use Rattle.iac.specs.declared.contents.Iac.{Iac}
 use Rattle.iac.specs.declared.port.Seen.{Seen}
 use Rattle.iac.specs.declared.registers.Register.{Register}
@@ -87,28 +90,43 @@ flag-bit : (i : ℕ) → bitAt iisrs i ≡ true → bit (rowOf (Isr (i / 32)) .n
 unfolding rowOf iisr
 flag-bit i h = h
 
+-- ---- what an access to a register leaves, by its answer; w says whether it is a write
+
+abbrev leaves : Answer → Bool → Iac → Register → Request → Iac
+leaves a w s reg q = left a s (cond w (withStored s reg (wordWritten reg (stored s reg) (q .value))) s) s
+
 -- ---- an access and a flag change named bits alone
 
-module _ {S s : Iac} (has : Has S) (own : Alike Kept S s s) where
-  with-kept : (reg : Register) (v : ℕ) → Kept (stored S reg) v (stored s reg) → Alike Kept S (withStored s reg v) s
-  with-kept reg v r = subst (Alike Kept S (withStored s reg v)) (stored-again s reg) (with-alike (kept-refl 0 0) own reg r)
+module _ {S t s : Iac} (has : Has S) (own : Alike Kept S t s) where
+  with-kept : (reg : Register) (v : ℕ) → Kept (stored S reg) v (stored s reg) → Alike Kept S (withStored t reg v) s
+  with-kept reg v r = subst (Alike Kept S (withStored t reg v)) (stored-again s reg) (with-alike (kept-refl 0 0) own reg r)
 
-  pub written-kept : (reg : Register) (q : Request) → Alike Kept S (written s reg (stored s reg) q) s
-  unfolding written
-  written-kept reg q = go (q .write)
-    where
-      go : (b : Bool) → Alike Kept S (cond b (withStored s reg (wordWritten reg (stored s reg) (q .value))) s) s
-      go true = with-kept reg _ (word-kept reg (stored S reg) (stored s reg) (q .value) (has reg))
-      go false = own
-
-  pub raise-kept : (i : Flag) → Alike Kept S (raise i s) s
+  pub raise-kept : (i : Flag) → Alike Kept S (raise i t) s
   unfolding raise raised stored withStored
   raise-kept i = with-kept (Icr (i .0 / 32)) _ (go (bitAt iisrs (i .0)) refl)
     where
+      word : Kept (getD (S .isr) (i .0 / 32) 0) (getD (t .isr) (i .0 / 32) 0) (getD (s .isr) (i .0 / 32) 0)
+      word = each-get (own .isr) (kept-refl 0 0) (i .0 / 32)
+
       go : (b : Bool) → bitAt iisrs (i .0) ≡ b
-          → Kept (getD (S .isr) (i .0 / 32) 0) (setIf b (getD (s .isr) (i .0 / 32) 0) (i .0 % 32)) (getD (s .isr) (i .0 / 32) 0)
-      go true e = kept-set _ _ _ (has (Isr (i .0 / 32)) (i .0 % 32) (mod-lt (i .0) (omega arith)) (flag-bit (i .0) e))
-      go false e = kept-refl _ _
+          → Kept (getD (S .isr) (i .0 / 32) 0) (setIf b (getD (t .isr) (i .0 / 32) 0) (i .0 % 32)) (getD (s .isr) (i .0 / 32) 0)
+      go true e =
+          λ j l h. kept-set _ _ _ (has (Isr (i .0 / 32)) (i .0 % 32) (mod-lt (i .0) (omega arith)) (flag-bit (i .0) e)) j l h ∙ word j l h
+      go false e = word
+
+pub stepped-kept : {S s : Iac} → Has S → Alike Kept S s s → (q : Request) → Alike Kept S (stepped s q .next) s
+unfolding stepped written
+stepped-kept {S} {s} has own q =
+    let reg = registerAt (q .offset) in
+    go (answerOf (rowOf reg) (stored s reg) q) (q .write)
+  where
+    go : (a : Answer) (w : Bool) → Alike Kept S (leaves a w s (registerAt (q .offset)) q) s
+    go (Done v) true =
+        let reg = registerAt (q .offset) in
+        with-kept has own reg _ (word-kept reg (stored S reg) (stored s reg) (q .value) (has reg))
+    go (Done v) false = own
+    go (Refused v) w = own
+    go (Rejected why) w = own
 
 -- ---- they read named bits alone, and leave them alike where they were
 
@@ -116,22 +134,25 @@ module _ {S s s′ : Iac} (has : Has S) (same : Alike Same S s s′) where
   bit-same : (reg : Register) (j : ℕ) → j < 32 → bit (rowOf reg .named) j ≡ true → bit (stored s reg) j ≡ bit (stored s′ reg) j
   bit-same reg j l h = stored-alike (same-refl 0 0) same reg .bits j l (has reg j l h)
 
-  pub answer-same : (reg : Register) (q : Request) → answerOf (rowOf reg) (stored s reg) q ≡ answerOf (rowOf reg) (stored s′ reg) q
+  answer-same : (reg : Register) (q : Request) → answerOf (rowOf reg) (stored s reg) q ≡ answerOf (rowOf reg) (stored s′ reg) q
   unfolding answerOf readOf
   answer-same reg q = rw (same-masked (rowOf reg .named) (stored S reg) _ _ (has reg) (stored-alike (same-refl 0 0) same reg))
 
-  pub written-same : (reg : Register) (q : Request) → Alike Same S (written s reg (stored s reg) q) (written s′ reg (stored s′ reg) q)
-  unfolding written
-  written-same reg q = go (q .write)
+  pub stepped-same : (q : Request) → (stepped s q .answer ≡ stepped s′ q .answer) × Alike Same S (stepped s q .next) (stepped s′ q .next)
+  unfolding stepped written
+  stepped-same q =
+      let reg = registerAt (q .offset) in
+      let e = answer-same reg q in
+      (e, rw e (go (answerOf (rowOf reg) (stored s′ reg) q) (q .write)))
     where
-      z : Same 0 0 0
-      z = same-refl 0 0
-
-      go : (b : Bool)
-          → Alike Same S (cond b (withStored s reg (wordWritten reg (stored s reg) (q .value))) s)
-          (cond b (withStored s′ reg (wordWritten reg (stored s′ reg) (q .value))) s′)
-      go true = with-alike z same reg (word-same reg (stored S reg) _ _ (q .value) (stored-alike z same reg))
-      go false = same
+      go : (a : Answer) (w : Bool) → Alike Same S (leaves a w s (registerAt (q .offset)) q) (leaves a w s′ (registerAt (q .offset)) q)
+      go (Done v) true =
+          let reg = registerAt (q .offset) in
+          let z = same-refl 0 0 in
+          with-alike z same reg (word-same reg (stored S reg) _ _ (q .value) (stored-alike z same reg))
+      go (Done v) false = same
+      go (Refused v) w = same
+      go (Rejected why) w = same
 
   pub raise-same : (i : Flag) → Alike Same S (raise i s) (raise i s′)
   unfolding raise raised stored withStored

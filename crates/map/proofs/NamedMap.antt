@@ -12,7 +12,7 @@ use Rattle.spans.specs.Rows.{flat}
 use Rattle.device.specs.Layout.{stateWords, stateOf}
 use Rattle.device.specs.Named.{Agree, Words32}
 use Rattle.device.specs.declared.event.Event.the-variants.{Memory}
-use Rattle.device.proofs.NamedDecide.{states-same, answer-same}
+use Rattle.device.proofs.NamedDecide.{states-same, step-same}
 use Rattle.map.specs.Demand.{grantsAt}
 use Rattle.map.specs.Map.{rowsOf}
 use Rattle.map.specs.Sheets.{SameGrants}
@@ -26,4 +26,4 @@ named-map m m′ n h sized l fits fits′ agree =
     sheets (stateOf m) (stateOf m′) n h .1
     (λ x width k i w a u.
     ap (λ (a : Answer). eqb (numberOf a) 0)
-    (answer-same same (Memory (record { guard = record { 0 = n }; offset = x; width = width; kind = k }))))
+    (step-same same (Memory (record { guard = record { 0 = n }; offset = x; width = width; kind = k })) .0))

@@ -12,13 +12,16 @@ use Rattle.words.specs.Bit.{bit, field, masked}
 use Rattle.words.specs.Six.{bitAt}
 use Rattle.words.proofs.Laws.{field-ext}
 use Rattle.words.proofs.Alike.{Within, Kept, Same, within-not, within-masked, kept-refl, same-refl, kept-word, same-word, same-masked, field-full, Each, each-get, each-set}
+use Rattle.access.specs.Answer.{left}
 use Rattle.access.specs.Kind.{debugger}
 use Rattle.access.specs.Offset.{within}
+use Rattle.access.specs.declared.answer.Answer.{Answer}
+use Rattle.access.specs.declared.answer.Answer.the-variants.{Done, Refused, Rejected}
 use Rattle.access.specs.declared.request.Request.{Request}
 use Rattle.rifsc.specs.Contents.{stored, withStored, isLocked, seen}
 use Rattle.rifsc.specs.Masters.{masters, attributesOf, carried}
 use Rattle.rifsc.specs.Peripherals.{filterOf}
-use Rattle.rifsc.specs.Port.{readOf, attrBits, takes, wordWritten, checksOf, answerOf, written}
+use Rattle.rifsc.specs.Port.{readOf, attrBits, takes, wordWritten, checksOf, answerOf, written, stepped}
 use Rattle.rifsc.specs.Registers.{registerAt, ppsr, ppsrs, rowOf}
 use Rattle.rifsc.specs.declared.contents.Rifsc.{Rifsc}
 use Rattle.rifsc.specs.declared.masters.MasterNumber.{MasterNumber}
@@ -144,6 +147,10 @@ takes-none Unknown v value secure j l h = refl
 abbrev seenOf : Rifsc → Register → Seen
 seenOf r reg = seen r reg (rowOf reg .lock) (rowOf reg .index)
 
+-- what it leaves, by its answer; w says whether it is a write
+abbrev leaves : Answer → Bool → Rifsc → Register → Request → Rifsc
+leaves a w r reg q = left a r (cond w (withStored r reg (wordWritten reg (rowOf reg) (seenOf r reg) (q .value) (q .secure))) r) r
+
 module _ {M r : Rifsc} (has : Has M) (own : Alike Kept M r r) where
   word-kept : (reg : Register) → Placed reg → (value : ℕ) (secure : Bool)
       → Kept (stored M reg) (wordWritten reg (rowOf reg) (seenOf r reg) value secure) (stored r reg)
@@ -154,15 +161,18 @@ module _ {M r : Rifsc} (has : Has M) (own : Alike Kept M r r) where
       ap (λ (b : Bool). cond b (bit value j) (bit (stored r reg) j))
       (takes-none reg (seenOf r reg) value secure j l (within-not (rowOf reg .named) (stored M reg) (has reg placed) j l h)))
 
-  pub written-kept : (reg : Register) → Placed reg → (q : Request) → Alike Kept M (written r reg (rowOf reg) (seenOf r reg) q) r
-  unfolding written
-  written-kept reg placed q = go (q .write)
+  pub stepped-kept : (q : Request) → Alike Kept M (stepped r q .next) r
+  unfolding stepped written
+  stepped-kept q = go (stepped r q .answer) (q .write)
     where
-      go : (b : Bool) → Alike Kept M (cond b (withStored r reg (wordWritten reg (rowOf reg) (seenOf r reg) (q .value) (q .secure))) r) r
-      go true =
-          subst (Alike Kept M (withStored r reg _)) (stored-again r reg)
-          (with-alike (kept-refl 0 0) own reg (word-kept reg placed (q .value) (q .secure)))
-      go false = own
+      go : (a : Answer) (w : Bool) → Alike Kept M (leaves a w r (registerAt (q .offset)) q) r
+      go (Done v) true =
+          subst (Alike Kept M (withStored r (registerAt (q .offset)) _)) (stored-again r (registerAt (q .offset)))
+          (with-alike (kept-refl 0 0) own (registerAt (q .offset))
+          (word-kept (registerAt (q .offset)) (register-placed (q .offset)) (q .value) (q .secure)))
+      go (Done v) false = own
+      go (Refused v) w = own
+      go (Rejected why) w = own
 
 -- ---- it reads named bits alone, and leaves them alike where they were
 
@@ -179,11 +189,14 @@ module _ {M r r′ : Rifsc} (has : Has M) (same : Alike Same M r r′) where
   locked-same RimcLock = bit-same Rimccr tt 0 (lit< tt) refl
   locked-same Never = refl
 
-  pub answer-same : (reg : Register) → Placed reg → (q : Request)
-      → answerOf (rowOf reg) (seenOf r reg) q ≡ answerOf (rowOf reg) (seenOf r′ reg) q
-  unfolding answerOf checksOf readOf seen
-  answer-same reg placed q =
-      rw (locked-same (rowOf reg .lock), same-masked (rowOf reg .named) (stored M reg) _ _ (has reg placed) (stored-same reg))
+  answer-same : (q : Request) → stepped r q .answer ≡ stepped r′ q .answer
+  unfolding stepped answerOf checksOf readOf seen
+  answer-same q =
+      let reg = registerAt (q .offset) in
+      rw (
+        locked-same (rowOf reg .lock),
+        same-masked (rowOf reg .named) (stored M reg) _ _ (has reg (register-placed (q .offset))) (stored-same reg),
+      )
 
   -- a named bit is taken of both or of none
   takes-same : (reg : Register) (value : ℕ) (secure : Bool) (j : ℕ) → j < 32 → bit (rowOf reg .named) j ≡ true
@@ -210,15 +223,17 @@ module _ {M r r′ : Rifsc} (has : Has M) (same : Alike Same M r r′) where
       either j l true e = takes-same reg value secure j l e
       either j l false e = takes-none reg (seenOf r reg) value secure j l e ∙ sym (takes-none reg (seenOf r′ reg) value secure j l e)
 
-  pub written-same : (reg : Register) (q : Request) → Alike Same M (written r reg (rowOf reg) (seenOf r reg) q) (written r′ reg (rowOf reg) (seenOf r′ reg) q)
-  unfolding written
-  written-same reg q = go (q .write)
+  pub stepped-same : (q : Request) → (stepped r q .answer ≡ stepped r′ q .answer) × Alike Same M (stepped r q .next) (stepped r′ q .next)
+  unfolding stepped written
+  stepped-same q = let e = answer-same q in (e, rw e (go (stepped r′ q .answer) (q .write)))
     where
-      go : (b : Bool)
-          → Alike Same M (cond b (withStored r reg (wordWritten reg (rowOf reg) (seenOf r reg) (q .value) (q .secure))) r)
-          (cond b (withStored r′ reg (wordWritten reg (rowOf reg) (seenOf r′ reg) (q .value) (q .secure))) r′)
-      go true = with-alike (same-refl 0 0) same reg (word-same reg (q .value) (q .secure))
-      go false = same
+      go : (a : Answer) (w : Bool) → Alike Same M (leaves a w r (registerAt (q .offset)) q) (leaves a w r′ (registerAt (q .offset)) q)
+      go (Done v) true =
+          let reg = registerAt (q .offset) in
+          with-alike (same-refl 0 0) same reg (word-same reg (q .value) (q .secure))
+      go (Done v) false = same
+      go (Refused v) w = same
+      go (Rejected why) w = same
 
   -- ---- the peripheral filter, and what a master carries
 

@@ -11,13 +11,16 @@ use lib.Seq.{getD-drop}
 use Rattle.words.specs.Bit.{bit, merged}
 use Rattle.words.proofs.Laws.{bit-ones, field-ext}
 use Rattle.words.proofs.Alike.{Whole, Kept, Same, same-refl, kept-merged, same-merged, kept-set, same-set, field-full}
+use Rattle.access.specs.Answer.{left}
 use Rattle.access.specs.Kind.{debugger}
+use Rattle.access.specs.declared.answer.Answer.{Answer}
+use Rattle.access.specs.declared.answer.Answer.the-variants.{Done, Refused, Rejected}
 use Rattle.access.specs.declared.kind.Kind.{Kind}
 use Rattle.regions.specs.Rules.{decided}
 use Rattle.regions.specs.Words.{startAt, endAt, cidcfgrAt, base, sub, enableBit, secBit, privcBit, srcidBit, privBit, rdenBit, wrenBit, readBit, writeBit}
 use Rattle.regions.proofs.NamedBits.{Sub, Region, decided-same}
 use Rattle.risaf.specs.Contents.{headWords, guardWords}
-use Rattle.risaf.specs.Memory.{memoryAnswer, recorded, recordedFault, faulted}
+use Rattle.risaf.specs.Memory.{memoryAnswer, recorded, recordedFault, faulted, memoryStepped}
 use Rattle.risaf.specs.Rows.{PlacedIn, ofHead, ofBase, ofSub, rowOf}
 use Rattle.risaf.specs.declared.contents.Guard.{Guard}
 use Rattle.risaf.specs.declared.guards.Shape.{Shape}
@@ -27,12 +30,13 @@ use Rattle.risaf.specs.declared.registers.SubField.the-variants.{SubCfgr
 use Rattle.risaf.specs.declared.registers.Register.{Register}
 use Rattle.risaf.specs.declared.registers.Register.the-variants.{OfHead, OfBase, OfSub}
 use Rattle.risaf.proofs.MemoryAnswer.{answer-over}
-use Rattle.risaf.proofs.NamedBits.{Alike, Has, whole-kept, bit-same, whole-same}
+use Rattle.risaf.proofs.NamedBits.{bit-same, whole-same}
+use Rattle.risaf.proofs.NamedWords.{Alike, Has, whole-kept}
 
 -- ---- a fault is recorded in named bits alone
 
 module _ {n : ℕ} {G g : Guard} (has : Has n G) (own : Alike Kept G g g) (o : ℕ) (k : Kind) where
-  pub faulted-kept : Alike Kept G (faulted g o k) g
+  faulted-kept : Alike Kept G (faulted g o k) g
   unfolding faulted recordedFault rowOf ofHead
   faulted-kept =
       record {
@@ -52,7 +56,7 @@ module _ {n : ℕ} {G g : Guard} (has : Has n G) (own : Alike Kept G g g) (o : �
       iaddr false = whole-kept _ (G .iaddr) o (g .iaddr) (bit-ones 32) (has (OfHead Iaddr) tt)
 
 module _ {n : ℕ} {G g g′ : Guard} (has : Has n G) (same : Alike Same G g g′) where
-  pub faulted-same : (o : ℕ) (k : Kind) → Alike Same G (faulted g o k) (faulted g′ o k)
+  faulted-same : (o : ℕ) (k : Kind) → Alike Same G (faulted g o k) (faulted g′ o k)
   unfolding faulted recordedFault rowOf ofHead
   faulted-same o k =
       let iaef : bit (g .iasr) 1 ≡ bit (g′ .iasr) 1 = bit-same has same (OfHead Iasr) tt 1 (lit< tt) refl in
@@ -126,13 +130,39 @@ module _ {n : ℕ} {G g g′ : Guard} (has : Has n G) (same : Alike Same G g g�
       }
 
 -- a CID over 7 is rejected before the rules are asked
-pub memory-same : {G g g′ : Guard} (there : Bool) (shape : Shape) (o width : ℕ) (k : Kind) → Has (shape .regions) G → Alike Same G g g′
+answer-same : {G g g′ : Guard} (there : Bool) (shape : Shape) (o width : ℕ) (k : Kind) → Has (shape .regions) G → Alike Same G g g′
     → memoryAnswer there shape o width k (decided (g .regions) (shape .regions) o k)
     ≡ memoryAnswer there shape o width k (decided (g′ .regions) (shape .regions) o k)
-memory-same {G} {g} {g′} there shape o width k has same = go (decLt (debugger .0) (k .cid .0))
+answer-same {G} {g} {g′} there shape o width k has same = go (decLt (debugger .0) (k .cid .0))
   where
     go : Dec (debugger .0 < k .cid .0)
         → memoryAnswer there shape o width k (decided (g .regions) (shape .regions) o k)
         ≡ memoryAnswer there shape o width k (decided (g′ .regions) (shape .regions) o k)
     go (yes l) = answer-over there shape o width k _ l ∙ sym (answer-over there shape o width k _ l)
     go (no r) = ap (memoryAnswer there shape o width k) (decided-same (shape .regions) o k (omega arith) (region-read has same))
+
+-- ---- a memory access
+
+pub memory-kept : {G g : Guard} (there : Bool) (shape : Shape) (o width : ℕ) (k : Kind) → Has (shape .regions) G → Alike Kept G g g
+    → Alike Kept G (memoryStepped there shape g o width k .next) g
+unfolding memoryStepped
+memory-kept {G} {g} there shape o width k has own =
+    go (memoryAnswer there shape o width k (decided (g .regions) (shape .regions) o k))
+  where
+    go : (a : Answer) → Alike Kept G (left a g g (faulted g o k)) g
+    go (Done v) = own
+    go (Refused v) = faulted-kept has own o k
+    go (Rejected why) = own
+
+pub memory-same : {G g g′ : Guard} (there : Bool) (shape : Shape) (o width : ℕ) (k : Kind) → Has (shape .regions) G → Alike Same G g g′
+    → (memoryStepped there shape g o width k .answer ≡ memoryStepped there shape g′ o width k .answer)
+    × Alike Same G (memoryStepped there shape g o width k .next) (memoryStepped there shape g′ o width k .next)
+unfolding memoryStepped
+memory-same {G} {g} {g′} there shape o width k has same =
+    let e = answer-same there shape o width k has same in
+    (e, rw e (go (memoryAnswer there shape o width k (decided (g′ .regions) (shape .regions) o k))))
+  where
+    go : (a : Answer) → Alike Same G (left a g g (faulted g o k)) (left a g′ g′ (faulted g′ o k))
+    go (Done v) = same
+    go (Refused v) = faulted-same has same o k
+    go (Rejected why) = same
