@@ -1,5 +1,7 @@
 pub mod Applies
 pub mod BlockSteps
+pub mod Effects
+pub mod GuardLayout
 pub mod GuardSteps
 pub mod LockWrites
 pub mod Locks

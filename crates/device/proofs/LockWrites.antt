@@ -39,7 +39,7 @@ use Rattle.risaf.specs.declared.registers.SubField.the-variants.{SubCfgr, SubSt
 use Rattle.risaf.specs.declared.registers.Register.{Register as GuardRegister}
 use Rattle.risaf.specs.declared.registers.Register.the-variants.{OfHead, OfBase, OfSub, Unknown}
 use Rattle.risaf.specs.declared.rows.Row.{Row}
-use Rattle.device.proofs.Refusals.{guardWritten}
+use Rattle.device.proofs.Effects.{guardWritten}
 
 -- ---- one bit
 

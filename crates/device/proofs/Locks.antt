@@ -30,7 +30,8 @@ use Rattle.device.specs.declared.event.Block.the-variants.{Rifsc, Iac, R
 use Rattle.device.specs.declared.event.Event.{Event}
 use Rattle.device.specs.declared.event.Event.the-variants.{Reset, Register, Peripheral, Memory, Master}
 use Rattle.device.proofs.LockWrites.{stored-by, RifscHeld, rifsc-still, rifsc-written, GuardHeld, guard-still, guard-written}
-use Rattle.device.proofs.Refusals.{registerEffect, effect, refused, refused-kept, step-by}
+use Rattle.device.proofs.Effects.{registerEffect, effect, refused, step-by}
+use Rattle.device.proofs.Refusals.{refused-kept}
 
 -- ---- the locks of a state that hold in another
 

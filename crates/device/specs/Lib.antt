@@ -3,6 +3,7 @@
 --     Step       meaning: what an event answers and leaves; demand 2
 --     Run        meaning: events one after the other
 --     Locks      meaning: the locks there are, and the settings
+--     Refusals   meaning: what a refusal with 1 leaves
 --     Applied    meaning: an event on lent memory
 --     Layout     meaning: the state's memory, part by part
 --     Named      meaning: which bits of the state's memory are named
@@ -10,6 +11,7 @@ pub mod Applied
 pub mod Layout
 pub mod Locks
 pub mod Named
+pub mod Refusals
 pub mod Run
 pub mod State
 pub mod Step

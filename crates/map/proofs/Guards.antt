@@ -13,7 +13,7 @@ use Rattle.risaf.specs.Guards.{shapeOf}
 use Rattle.risaf.proofs.Shapes.{regions-most, window-most, place-lt}
 use Rattle.device.specs.Layout.{stateWords, stateOf, regionsIn}
 use Rattle.device.specs.State.{guardOf}
-use Rattle.device.proofs.StateLayout.{regions-read, regions-length}
+use Rattle.device.proofs.GuardLayout.{regions-read, regions-length}
 
 -- the code's test that there is such a guard
 pub passed : {a b : Bool} → b ≡ a → not b ≡ false → a ≡ true

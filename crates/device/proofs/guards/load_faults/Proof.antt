@@ -1,7 +1,7 @@
 use borrow.Author.Needs.{needs}
 use lib.Dec.{lit<}
 use Rattle.risaf.specs.Contents.{iasrAt, iaesrAt, iaddrAt}
-use Rattle.device.proofs.StateLayout.{word-read}
+use Rattle.device.proofs.GuardLayout.{word-read}
 use Rattle.device.proofs.guards.load_faults.Statement.{statement}
 use Rattle.device.proofs.guards.load_faults.Tie as tie
 

@@ -4,7 +4,7 @@ use mathlib.Core.Path.{sym, ap, _∙_}
 use Prim.Native.Nat.{ℕ}
 use native.Mathlib.Nat.{add-sub-cancel-left}
 use Rattle.risaf.specs.Port.{portIn}
-use Rattle.device.proofs.StateLayout.{guard-words}
+use Rattle.device.proofs.GuardLayout.{guard-words}
 use Rattle.device.proofs.guards.load_port.Statement.{statement}
 use Rattle.device.proofs.guards.load_port.Tie as tie
 

@@ -2,7 +2,7 @@ use borrow.Author.Needs.{needs}
 use mathlib.Core.Path.{_∙_}
 use Rattle.risaf.specs.Contents.{iaesrAt, iaddrAt, withWord}
 use Rattle.device.specs.Layout.{stateOf}
-use Rattle.device.proofs.StateLayout.{guards-count, word-again}
+use Rattle.device.proofs.GuardLayout.{guards-count, word-again}
 use Rattle.device.proofs.guards.store_faults.Statement.{statement}
 use Rattle.device.proofs.guards.store_faults.Tie as tie
 

@@ -1,5 +1,5 @@
 use borrow.Author.Needs.{needs}
-use Rattle.device.proofs.StateLayout.{word-stored}
+use Rattle.device.proofs.GuardLayout.{word-stored}
 use Rattle.device.proofs.guards.store_word.Statement.{statement}
 use Rattle.device.proofs.guards.store_word.Tie as tie
 

@@ -2,7 +2,7 @@ use borrow.Author.Needs.{needs}
 use borrow.Author.Tests.{eq-eqb, ne-eqb, lt-ltb, le-ltb}
 use native.Mathlib.Nat.{add-sub-cancel-left}
 use Rattle.device.specs.Layout.{regionsIn}
-use Rattle.device.proofs.StateLayout.{regions-part}
+use Rattle.device.proofs.GuardLayout.{regions-part}
 use Rattle.device.proofs.layout.region_words.Statement.{statement}
 use Rattle.device.proofs.layout.region_words.Tie as tie
 

@@ -8,7 +8,7 @@ use Rattle.risaf.proofs.Shapes.{place-lt}
 use Rattle.device.specs.Layout.{stateOf}
 use Rattle.device.specs.State.{flagged}
 use Rattle.device.proofs.GuardSteps.{memory-answered, memory-refused, memory-kept}
-use Rattle.device.proofs.StateLayout.{regions-read, regions-length}
+use Rattle.device.proofs.GuardLayout.{regions-read, regions-length}
 use Rattle.device.proofs.memory.access_memory.Statement.{statement}
 use Rattle.device.proofs.memory.access_memory.Tie as tie
 

@@ -8,7 +8,7 @@ use Rattle.risaf.specs.Contents.{guardWords, reset}
 use Rattle.risaf.specs.Guards.{guardCount}
 use Rattle.device.specs.Layout.{stateOf, stateWords}
 use Rattle.device.specs.State.{State, withRifsc, withIac, withGuards, resetState}
-use Rattle.device.proofs.StateLayout.{guards-count, guards-more, guards-all}
+use Rattle.device.proofs.GuardLayout.{guards-count, guards-more, guards-all}
 use Rattle.device.proofs.reset.reset.Statement.{statement}
 use Rattle.device.proofs.reset.reset.Tie as tie
 

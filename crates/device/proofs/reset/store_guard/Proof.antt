@@ -1,5 +1,5 @@
 use borrow.Author.Needs.{needs}
-use Rattle.device.proofs.StateLayout.{guard-stored}
+use Rattle.device.proofs.GuardLayout.{guard-stored}
 use mathlib.Core.Path.{ap, _∙_}
 use Rattle.device.specs.Layout.{stateOf}
 use Rattle.device.proofs.reset.store_guard.Statement.{statement}
