@@ -8,7 +8,7 @@ use Rattle.access.specs.declared.answer.Why.the-variants.{NoSuch, WrongLength}
 use Rattle.device.specs.Applied.{sized, appliedAnswer, appliedState}
 use Rattle.device.specs.declared.event.Event.{Event}
 use Rattle.device.specs.declared.event.Event.the-variants.{Register, Peripheral, Memory, Master}
-use Rattle.capi.specs.Numbers.{blockOf, operationOf}
+use Rattle.capi.specs.Numbers.{blockNumbered, operationNumbered}
 use Rattle.capi.specs.declared.numbers.NamedBlock.{NamedBlock}
 use Rattle.capi.specs.declared.numbers.NamedBlock.the-variants.{Is, NoBlock}
 use Rattle.capi.specs.declared.numbers.NamedOperation.{NamedOperation}
@@ -21,7 +21,7 @@ pub data Asked : Type 0 where
   nothing : Asked
 
 unfoldable pub registerAsked : ℕ → ℕ → ℕ → Bool → ℕ → Bool → Bool → Asked
-registerAsked block guard offset write value secure privileged = at (blockOf block guard)
+registerAsked block guard offset write value secure privileged = at (blockNumbered block guard)
   where
     at : NamedBlock → Asked
     at (Is b) =
@@ -34,7 +34,7 @@ registerAsked block guard offset write value secure privileged = at (blockOf blo
     at NoBlock = nothing
 
 unfoldable pub peripheralAsked : ℕ → ℕ → Bool → Bool → Asked
-peripheralAsked peripheral operation secure privileged = to (operationOf operation)
+peripheralAsked peripheral operation secure privileged = to (operationNumbered operation)
   where
     to : NamedOperation → Asked
     to (Does o) =

@@ -1,7 +1,7 @@
 use crate::numbers::NamedBlock;
 use crate::numbers::NamedOperation;
-use crate::numbers::block_of;
-use crate::numbers::operation_of;
+use crate::numbers::block_numbered;
+use crate::numbers::operation_numbered;
 use access::Answer;
 use access::Cid;
 use access::Kind;
@@ -61,7 +61,7 @@ pub extern "C" fn rif_register(
     ensures answer { λ r. ⌜ r ≡ askedAnswer (registerAsked block guard offset write value secure privileged) (now (state .entry)) ⌝ }
     ensures next { λ _. ⌜ now (state .exit) ≡ askedState (registerAsked block guard offset write value secure privileged) (now (state .entry)) ⌝ }
 {
-    let NamedBlock::Is(block) = block_of(block, guard) else {
+    let NamedBlock::Is(block) = block_numbered(block, guard) else {
         return nothing(state);
     };
     let request = Request {
@@ -85,7 +85,7 @@ pub extern "C" fn rif_peripheral(
     ensures answer { λ r. ⌜ r ≡ askedAnswer (peripheralAsked peripheral operation secure privileged) (now (state .entry)) ⌝ }
     ensures next { λ _. ⌜ now (state .exit) ≡ askedState (peripheralAsked peripheral operation secure privileged) (now (state .entry)) ⌝ }
 {
-    let NamedOperation::Does(operation) = operation_of(operation) else {
+    let NamedOperation::Does(operation) = operation_numbered(operation) else {
         return nothing(state);
     };
     let access = PeripheralAccess {

@@ -3,7 +3,7 @@ use device::Block;
 use device::Operation;
 use risaf::GuardNumber;
 ghost use mathlib.Core.Path.{_≡_};
-ghost use Rattle.capi.specs.Numbers.{blockOf, operationOf};
+ghost use Rattle.capi.specs.Numbers.{blockNumbered, operationNumbered};
 
 pub(crate) enum NamedBlock {
     Is(Block),
@@ -16,8 +16,8 @@ pub(crate) enum NamedOperation {
 }
 
 // Block 2 is the RISAF that the guard's number says.
-pub(crate) fn block_of(block: u32, guard: u32) -> NamedBlock
-    ensures { λ r. ⌜ r ≡ blockOf block guard ⌝ }
+pub(crate) fn block_numbered(block: u32, guard: u32) -> NamedBlock
+    ensures { λ r. ⌜ r ≡ blockNumbered block guard ⌝ }
 {
     match block {
         0 => NamedBlock::Is(Block::Rifsc),
@@ -27,8 +27,8 @@ pub(crate) fn block_of(block: u32, guard: u32) -> NamedBlock
     }
 }
 
-pub(crate) fn operation_of(operation: u32) -> NamedOperation
-    ensures { λ r. ⌜ r ≡ operationOf operation ⌝ }
+pub(crate) fn operation_numbered(operation: u32) -> NamedOperation
+    ensures { λ r. ⌜ r ≡ operationNumbered operation ⌝ }
 {
     match operation {
         0 => NamedOperation::Does(Operation::Read),

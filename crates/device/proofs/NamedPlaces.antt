@@ -26,7 +26,7 @@ use Rattle.iac.specs.Registers.{iisr, iisrs}
 use Rattle.iac.specs.declared.registers.Register.the-variants as in-iac
 use Rattle.iac.proofs.NamedBits as iac-named
 use Rattle.risaf.specs.Contents.{headWords, iaesrAt, guardSize, guardWords, guardFrom}
-use Rattle.risaf.specs.Guards.{Row, guards, shapeOf}
+use Rattle.risaf.specs.Guards.{GuardRow, guards, shapeOf}
 use Rattle.risaf.specs.Rows.{ofHead, ofBase, ofSub, rowOf}
 use Rattle.risaf.specs.declared.guards.Shape.{Shape}
 use Rattle.risaf.specs.declared.registers.Head.the-variants.{Cr, Iasr, Iacr, Iaesr, Iaddr}
@@ -208,5 +208,5 @@ unfolding namedState
 guards-have n =
     by-guard (λ (s : Shape). s .regions ≤ mostRegions → risaf-named.Has (s .regions) (guardAt namedState (s .place))) n
     (λ h. guard-has _ 0 (omega arith) (lit≤ tt))
-    (λ i h q l. rw (map-at (λ (g : Row). namedGuard (g .regions)) guards i noRow (guardFrom []) h) (guard-has _ _ (omega arith) l))
+    (λ i h q l. rw (map-at (λ (g : GuardRow). namedGuard (g .regions)) guards i noRow (guardFrom []) h) (guard-has _ _ (omega arith) l))
     (regions-most n)

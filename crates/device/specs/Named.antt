@@ -14,7 +14,7 @@ use Rattle.rifsc.specs.Registers as rifsc
 use Rattle.rifsc.specs.declared.registers.Register.the-variants.{Cr, Seccfgr, Privcfgr, Rcfglockr, Rimccr, Attr}
 use Rattle.iac.specs.Registers as iac
 use Rattle.iac.specs.declared.registers.Register.the-variants.{Ier, Isr}
-use Rattle.risaf.specs.Guards.{Row, guards}
+use Rattle.risaf.specs.Guards.{GuardRow, guards}
 use Rattle.risaf.specs.Rows.{ofHead, ofBase, ofSub}
 use Rattle.risaf.specs.declared.contents.Guard.{Guard}
 use Rattle.risaf.specs.declared.registers.Head.the-variants as head
@@ -66,7 +66,7 @@ namedState =
             ier = firsts bitWords (λ x. iac.rowOf (Ier x) .named);
             isr = firsts bitWords (λ x. iac.rowOf (Isr x) .named);
           };
-      guards = map (λ (g : Row). namedGuard (g .regions)) guards;
+      guards = map (λ (g : GuardRow). namedGuard (g .regions)) guards;
     }
 
 -- the named bits of word i of the state's memory

@@ -5,7 +5,7 @@ use Rattle.words.specs.Bit.{bit, merged, withBit}
 use Rattle.access.specs.declared.kind.Kind.{Kind}
 use Rattle.rifsc.specs.Masters.{attributesOf, carried}
 use Rattle.risaf.specs.Guards.{shapeOf}
-use Rattle.risaf.specs.Memory.{recorded}
+use Rattle.risaf.specs.Memory.{iaesrOf}
 use Rattle.risaf.specs.declared.contents.Guard.{Guard}
 use Rattle.device.specs.State.{State, guardOf, withGuard, flagged}
 use Rattle.device.specs.Step.{rifscFlag, iacFlag}
@@ -28,7 +28,7 @@ registerFault g = withFaultRegisters g (withBit 32 (g .iasr) 0 true) (g .iaesr) 
 abbrev pub memoryFault : ℕ → Kind → Guard → Guard
 memoryFault o k g =
     cond (bit (g .iasr) 1) (withFaultRegisters g (withBit 32 (g .iasr) 1 true) (g .iaesr) (g .iaddr))
-    (withFaultRegisters g (withBit 32 (g .iasr) 1 true) (merged 32 (g .iaesr) (recorded k) 0x0000_00b7) o)
+    (withFaultRegisters g (withBit 32 (g .iasr) 1 true) (merged 32 (g .iaesr) (iaesrOf k) 0x0000_00b7) o)
 
 -- ---- the state: one flag is raised, and at a guard that guard's fault registers change
 

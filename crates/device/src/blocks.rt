@@ -21,7 +21,7 @@ ghost use Rattle.device.specs.Layout.{stateOf, stateWords};
 ghost use Rattle.device.specs.State.{withIac, withRifsc};
 
 // Copies words to dst, from index at on.
-pub(crate) fn put(dst: &mut [u32], at: usize, words: &[u32])
+pub(crate) fn copy_words(dst: &mut [u32], at: usize, words: &[u32])
     requires { ⌜ at + length (now words) ≤ length (now dst) ⌝ }
     ensures { λ _. ⌜ now (dst .exit) ≡ paste (now (dst .entry)) at (now (words .entry)) (length (now (words .entry))) ⌝ }
 {
@@ -36,7 +36,7 @@ fn six(state: &[u32], at: usize) -> [u32; BIT_WORDS]
     ensures { λ r. ⌜ r ≡ take bitWords (drop at (now (state .entry))) ⌝ }
 {
     let mut words = [0u32; BIT_WORDS];
-    put(&mut words, 0, &state[at..at + BIT_WORDS]);
+    copy_words(&mut words, 0, &state[at..at + BIT_WORDS]);
     words
 }
 
@@ -45,7 +45,7 @@ fn store_six(state: &mut [u32], at: usize, words: [u32; BIT_WORDS])
     requires { ⌜ at + bitWords ≤ length (now state) ⌝ }
     ensures { λ _. ⌜ (length words ≡ bitWords) × (now (state .exit) ≡ paste (now (state .entry)) at words (length words)) ⌝ }
 {
-    put(state, at, &words);
+    copy_words(state, at, &words);
 }
 
 // Stores a word of each master, from at on.
@@ -53,7 +53,7 @@ fn store_attr(state: &mut [u32], at: usize, words: [u32; MASTERS])
     requires { ⌜ at + masters ≤ length (now state) ⌝ }
     ensures { λ _. ⌜ (length words ≡ masters) × (now (state .exit) ≡ paste (now (state .entry)) at words (length words)) ⌝ }
 {
-    put(state, at, &words);
+    copy_words(state, at, &words);
 }
 
 pub(crate) fn store_rifsc(state: &mut [u32], r: Rifsc)

@@ -1,4 +1,4 @@
-use crate::blocks::put;
+use crate::blocks::copy_words;
 use crate::blocks::store_iac;
 use crate::blocks::store_rifsc;
 use crate::layout::GUARDS;
@@ -22,7 +22,7 @@ fn guard_words() -> [u32; GUARD_WORDS]
     let guard = risaf::Guard::reset();
     let regions = guard.regions;
     let mut words = [0u32; GUARD_WORDS];
-    put(&mut words, HEAD_WORDS, &regions);
+    copy_words(&mut words, HEAD_WORDS, &regions);
     words
 }
 
@@ -31,7 +31,7 @@ fn store_guard(state: &mut [u32], place: usize, words: &[u32; GUARD_WORDS])
     requires { ⌜ (length (now state) ≡ stateWords) × (place < guardCount) × (length (now words) ≡ guardSize) ⌝ }
     ensures { λ _. ⌜ stateOf (now (state .exit)) ≡ withGuardAt (stateOf (now (state .entry))) place (guardFrom (now (words .entry))) ⌝ }
 {
-    put(state, GUARDS + GUARD_WORDS * place, words);
+    copy_words(state, GUARDS + GUARD_WORDS * place, words);
 }
 
 // Every word its reset value.

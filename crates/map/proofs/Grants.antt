@@ -14,7 +14,7 @@ use Rattle.access.specs.declared.answer.Answer.the-variants.{Done, Refused}
 use Rattle.access.specs.declared.kind.Kind.{Kind}
 use Rattle.risaf.specs.Guards.{isGuard, shapeOf}
 use Rattle.risaf.specs.Memory.{isWidth, memoryStepped, memoryAnswer, memoryChecks}
-use Rattle.regions.specs.Rights.{rights}
+use Rattle.regions.specs.Rights.{rightsWord}
 use Rattle.regions.specs.Rules.{decided}
 use Rattle.regions.proofs.RightsBits.{rights-bit}
 use Rattle.device.specs.State.{State, guardOf}
@@ -46,7 +46,7 @@ module _ (s : State) (n x : ℕ) (hn : isGuard n ≡ true) (hx : x < shapeOf n .
 -- where the answers to all accesses of one byte are the same, so is the rights word
 pub rights-same : (s t : State) (n x : ℕ) → isGuard n ≡ true → x < shapeOf n .window
     → ((k : Kind) → k .cid .0 ≤ 7 → grantsAt s n x 1 k ≡ grantsAt t n x 1 k) → rightsOf s n x ≡ rightsOf t n x
-unfolding rightsOf rights
+unfolding rightsOf rightsWord
 rights-same s t n x hn hx same =
     word-cong 64 _ _
     (λ b h.

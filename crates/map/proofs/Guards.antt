@@ -6,7 +6,7 @@ use Prim.Native.Nat.{ℕ, _^_, _≤_}
 use lib.ListN.{length}
 use borrow.Author.Tests.{le-leb, not-false}
 use Rattle.regions.specs.Lent.{rightsIn}
-use Rattle.regions.specs.Rights.{rights}
+use Rattle.regions.specs.Rights.{rightsWord}
 use Rattle.regions.specs.Words.{base, mostRegions}
 use Rattle.risaf.specs.Contents.{regionsWords}
 use Rattle.risaf.specs.Guards.{shapeOf}
@@ -34,6 +34,6 @@ guard-regions-length m n h = regions-length m (shapeOf n .place) h (place-lt n)
 
 -- ---- words enough for the rules
 
-pub rights-enough : (w : List ℕ) (n o : ℕ) → n ≤ mostRegions → base n ≤ length w → rightsIn w n o ≡ rights w n o
+pub rights-enough : (w : List ℕ) (n o : ℕ) → n ≤ mostRegions → base n ≤ length w → rightsIn w n o ≡ rightsWord w n o
 unfolding rightsIn
 rights-enough w n o h l = simp (le-leb n mostRegions h, le-leb (base n) (length w) l)

@@ -8,7 +8,7 @@ use lib.ListN.{length}
 use borrow.Author.Tests.{eq-eqb, le-leb}
 use Rattle.access.specs.declared.answer.Answer.the-variants.{Done}
 use Rattle.risaf.specs.Guards.{isGuard, shapeOf}
-use Rattle.regions.specs.Rights.{rights}
+use Rattle.regions.specs.Rights.{rightsWord}
 use Rattle.risaf.specs.declared.guards.Shape.{Shape}
 use Rattle.spans.specs.Map.{mapOf}
 use Rattle.spans.specs.Rows.{Rows, filled, size}
@@ -27,13 +27,13 @@ module _ (m : List ℕ) (n : ℕ) (l : List ℕ) (hm : length m ≡ stateWords) 
       let k : shape .regions ≤ mostRegions = rw es (small n .0) in
       (k, rw ew (omega (arith, guard-regions-length m n hm)), rw es (small n .1), hl)
 
-  rows : mapOf (rights w (shape .regions)) (shape .window) ≡ rowsOf (stateOf m) n
+  rows : mapOf (rightsWord w (shape .regions)) (shape .window) ≡ rowsOf (stateOf m) n
   unfolding rowsOf rightsOf
   rows = rw (ew, es)
 
   -- what it makes
-  pub made : {count : ℕ} {l′ : List ℕ} → count ≡ size (mapOf (rights w (shape .regions)) (shape .window))
-      → l′ ≡ filled (mapOf (rights w (shape .regions)) (shape .window)) l
+  pub made : {count : ℕ} {l′ : List ℕ} → count ≡ size (mapOf (rightsWord w (shape .regions)) (shape .window))
+      → l′ ≡ filled (mapOf (rightsWord w (shape .regions)) (shape .window)) l
       → (Done 0 ≡ fillAnswer m n l) × ((rowNumbers * count ≡ fillUsed m n l) × (l′ ≡ fillNumbers m n l))
   unfolding fillAnswer fillUsed fillNumbers
   made ec el =

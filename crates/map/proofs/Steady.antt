@@ -10,7 +10,7 @@ use Rattle.access.specs.Kind.{kindOf}
 use Rattle.access.specs.declared.kind.Kind.{Kind}
 use Rattle.risaf.specs.Guards.{shapeOf}
 use Rattle.regions.specs.Words.{base, sub, mostRegions}
-use Rattle.regions.specs.Rights.{rights}
+use Rattle.regions.specs.Rights.{rightsWord}
 use Rattle.regions.specs.Rules.{covers}
 use Rattle.regions.specs.Tally.{tally, added, subAdded, judged}
 use Rattle.regions.specs.declared.rules.Verdict.{Verdict}
@@ -57,8 +57,8 @@ module _ (w : List ℕ) (o o′ : ℕ) where
       let p = region-alike n k (pairsOf w n) a in
       tally-suc w n o k ∙ p .0 ∙ ap (added w n o′ k) (tally-alike n k (p .1)) ∙ sym (tally-suc w n o′ k)
 
-  rights-alike : (n : ℕ) → Alike (pairsOf w n) o o′ → rights w n o ≡ rights w n o′
-  unfolding rights
+  rights-alike : (n : ℕ) → Alike (pairsOf w n) o o′ → rightsWord w n o ≡ rightsWord w n o′
+  unfolding rightsWord
   rights-alike n a =
       word-cong 64 _ _
       (λ b h.
@@ -66,8 +66,8 @@ module _ (w : List ℕ) (o o′ : ℕ) where
       ap (λ (v : Verdict). v .granted)
       (decided-judged w n o k ∙ ap (λ t. judged t k) (tally-alike n k a) ∙ sym (decided-judged w n o′ k)))
 
-pub steady : (w : List ℕ) (n : ℕ) → Steady (rights w n) (boundsOf (pairsOf w n))
-steady w n = steady-pairs (rights w n) (pairsOf w n) (λ x y a. rights-alike w x y n a)
+pub steady : (w : List ℕ) (n : ℕ) → Steady (rightsWord w n) (boundsOf (pairsOf w n))
+steady w n = steady-pairs (rightsWord w n) (pairsOf w n) (λ x y a. rights-alike w x y n a)
 
 -- ---- how many boundaries there are
 
@@ -93,7 +93,7 @@ bounds-most w n h = omega (arith, length-bounds (pairsOf w n), most n)
         omega (arith, one (enabled w (sub x 1)) (pairAt w (sub x 1)) a, one (enabled w (sub x 0)) (pairAt w (sub x 0)) b) in
         omega (arith, three (enabled w (base x)) (withPair w (sub x 1) a) ps h, most x)
 
-pub size-most : (w : List ℕ) (n window : ℕ) → n ≤ mostRegions → size (mapOf (rights w n) window) ≤ mostRows
+pub size-most : (w : List ℕ) (n window : ℕ) → n ≤ mostRegions → size (mapOf (rightsWord w n) window) ≤ mostRows
 size-most w n window h = omega (arith, rows-most (steady w n) window, bounds-most w n h)
 
 -- ---- the map of a guard

@@ -8,7 +8,7 @@ use risaf::GuardNumber;
 ghost use mathlib.Core.Path.{_≡_};
 ghost use Prim.Native.Nat.{_^_, _≤_};
 ghost use lib.ListN.{length};
-ghost use Rattle.regions.specs.Rights.{rights};
+ghost use Rattle.regions.specs.Rights.{rightsWord};
 ghost use Rattle.regions.specs.Words.{base, mostRegions};
 ghost use Rattle.spans.specs.Map.{mapOf};
 ghost use Rattle.spans.specs.Rows.{filled, size};
@@ -31,15 +31,15 @@ pub struct Filled {
 // with the rights at its start.
 fn sweep(w: &[u32], n: usize, window: u64, lent: &mut [u64]) -> usize
     requires { ⌜ (n ≤ mostRegions) × (base n ≤ length (now w)) × (window ≤ 2 ^ 32) × (leastRoom ≤ length (now lent)) ⌝ }
-    ensures { λ r. ⌜ r ≡ size (mapOf (rights (now (w .entry)) n) window) ⌝ }
-    ensures { λ r. ⌜ now (lent .exit) ≡ filled (mapOf (rights (now (w .entry)) n) window) (now (lent .entry)) ⌝ }
+    ensures { λ r. ⌜ r ≡ size (mapOf (rightsWord (now (w .entry)) n) window) ⌝ }
+    ensures { λ r. ⌜ now (lent .exit) ≡ filled (mapOf (rightsWord (now (w .entry)) n) window) (now (lent .entry)) ⌝ }
 {
     let mut at: u64 = 0;
     let mut count: usize = 0;
     while at < window {
-        let rights = rights_at(w, n, at as u32);
+        let rightsWord = rights_at(w, n, at as u32);
         let to = next(w, n, at, window);
-        count = spans::put(lent, count, at, to - 1, rights);
+        count = spans::put(lent, count, at, to - 1, rightsWord);
         at = to;
     }
     count

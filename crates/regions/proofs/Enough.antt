@@ -7,7 +7,7 @@ use lib.ListN.{length}
 use borrow.Author.Tests.{le-leb}
 use Rattle.access.specs.declared.kind.Kind.{Kind}
 use Rattle.regions.specs.Lent.{decidedIn, rightsIn}
-use Rattle.regions.specs.Rights.{rights}
+use Rattle.regions.specs.Rights.{rightsWord}
 use Rattle.regions.specs.Rules.{decided}
 
 module _ (w : List ℕ) (n o : ℕ) (h : n ≤ 11) (l : 12 * n ≤ length w) where
@@ -17,7 +17,7 @@ module _ (w : List ℕ) (n o : ℕ) (h : n ≤ 11) (l : 12 * n ≤ length w) whe
       ap (λ (b : Bool). cond b (decided w n o k) (record { rule = 0; granted = false }))
       (ap₂ _&&_ (ap₂ _&&_ (le-leb n 11 h) (le-leb (12 * n) (length w) l)) (le-leb (k .cid .0) 7 m))
 
-  pub rights-enough : rightsIn w n o ≡ rights w n o
+  pub rights-enough : rightsIn w n o ≡ rightsWord w n o
   unfolding rightsIn
   rights-enough =
-      ap (λ (b : Bool). cond b (rights w n o) 0) (ap₂ _&&_ (le-leb n 11 h) (le-leb (12 * n) (length w) l))
+      ap (λ (b : Bool). cond b (rightsWord w n o) 0) (ap₂ _&&_ (le-leb n 11 h) (le-leb (12 * n) (length w) l))

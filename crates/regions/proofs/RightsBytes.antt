@@ -15,7 +15,7 @@ use Rattle.words.proofs.Ops.{bit-and, bit-not, bit-or}
 use Rattle.access.specs.Kind.{kindOf, rightsBit}
 use Rattle.access.specs.declared.kind.Kind.{Kind}
 use Rattle.regions.specs.Masks.{masks, tallyOf, rightsFrom, byteAt, openTo}
-use Rattle.regions.specs.Rights.{rights}
+use Rattle.regions.specs.Rights.{rightsWord}
 use Rattle.regions.specs.Tally.{judged}
 use Rattle.regions.specs.declared.masks.Masks.{Masks}
 use Rattle.regions.specs.declared.rules.Tally.{Tally}
@@ -56,8 +56,8 @@ module _ (m : Masks) where
       ∙ word-join n k (λ i. grants (kindOf (at + i)))
 
 -- the theorem: each bit is the verdict on its kind of asking
-pub rights-masks : (w : List ℕ) (n o : ℕ) → rightsFrom (masks w n o) 0 64 ≡ rights w n o
-unfolding rightsFrom rights
+pub rights-masks : (w : List ℕ) (n o : ℕ) → rightsFrom (masks w n o) 0 64 ≡ rightsWord w n o
+unfolding rightsFrom rightsWord
 rights-masks w n o =
     word-cong 64 _ _
     (λ b h.

@@ -7,7 +7,7 @@ use lib.ListN.{length}
 use Rattle.access.specs.Kind.{isCid}
 use Rattle.access.specs.declared.kind.Kind.{Kind}
 use Rattle.regions.specs.Words.{base, mostRegions}
-use Rattle.regions.specs.Rights.{rights}
+use Rattle.regions.specs.Rights.{rightsWord}
 use Rattle.regions.specs.Rules.{decided}
 use Rattle.regions.specs.declared.rules.Verdict.{Verdict}
 
@@ -21,4 +21,4 @@ decidedIn w n o k = cond (enough w n && isCid (k .cid)) (decided w n o k) (recor
 
 -- too few words: no rights
 unfoldable pub rightsIn : List ℕ → ℕ → ℕ → ℕ
-rightsIn w n o = cond (enough w n) (rights w n o) 0
+rightsIn w n o = cond (enough w n) (rightsWord w n o) 0

@@ -5,5 +5,5 @@ use Rattle.words.specs.Bit.{word}
 use Rattle.access.specs.Kind.{kindOf}
 use Rattle.regions.specs.Rules.{decided}
 
-unfoldable pub rights : List ℕ → ℕ → ℕ → ℕ
-rights w n o = word 64 (λ b. decided w n o (kindOf b) .granted)
+unfoldable pub rightsWord : List ℕ → ℕ → ℕ → ℕ
+rightsWord w n o = word 64 (λ b. decided w n o (kindOf b) .granted)

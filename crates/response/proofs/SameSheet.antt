@@ -11,7 +11,7 @@ use lib.Dec.{eqb}
 use lib.ListN.{length, length-append}
 use Rattle.words.proofs.Laws.{word-lt}
 use Rattle.access.specs.Kind.{kindOf}
-use Rattle.regions.specs.Rights.{rights}
+use Rattle.regions.specs.Rights.{rightsWord}
 use Rattle.regions.specs.Rules.{decided}
 use Rattle.risaf.specs.Guards.{isGuard, shapeOf}
 use Rattle.spans.specs.Map.{join, mapOf}
@@ -54,7 +54,7 @@ small-map f h zero l = tt
 small-map f h (suc x) l = small-join (mapOf f x) x (f x) (small-map f h x (omega arith)) (omega arith) (h x)
 
 rights-few : (s : State) (n o : ℕ) → rightsOf s n o < 2 ^ 64
-unfolding rightsOf rights
+unfolding rightsOf rightsWord
 rights-few s n o = word-lt 64 (λ b. decided (guardOf s n .regions) (shapeOf n .regions) o (kindOf b) .granted)
 
 small-rows : (s : State) (n : ℕ) → Small (rowsOf s n)

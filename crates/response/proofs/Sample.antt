@@ -11,7 +11,7 @@ use Rattle.iac.specs.Contents.{reset as iac-reset}
 use Rattle.risaf.specs.Contents.{reset}
 use Rattle.risaf.specs.Guards.{shapeIn, shapeOf}
 use Rattle.risaf.specs.Memory.{memoryChecks, memoryAnswer, memoryStepped}
-use Rattle.regions.specs.Rights.{rights}
+use Rattle.regions.specs.Rights.{rightsWord}
 use Rattle.regions.specs.Rules.{decided}
 use Rattle.spans.specs.Map.{join}
 use Rattle.spans.specs.Rows.{size}
@@ -87,7 +87,7 @@ asked = refl
 swept : sheet 2
     (sweptMap (rightsOf (stateOf start) 2) (boundsOf (pairsOf (guardOf (stateOf start) 2 .regions) (shapeOf 2 .regions))) (shapeOf 2 .window))
     ≡ text2
-unfolding sheet spanLines labelLine spanLine digitsOf widthIn widthOf decimalText size sweptMap sweepFrom nextOf boundsOf join pairsOf rightsOf rights decided layout joined partsOf stateOf resetState rifsc-reset iac-reset reset shapeIn shapeOf guardOf
+unfolding sheet spanLines labelLine spanLine digitsOf widthIn widthOf decimalText size sweptMap sweepFrom nextOf boundsOf join pairsOf rightsOf rightsWord decided layout joined partsOf stateOf resetState rifsc-reset iac-reset reset shapeIn shapeOf guardOf
 swept = refl
 
 second : textOf (Map (record { 0 = 2 })) 2 start ≡ text2

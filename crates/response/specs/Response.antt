@@ -41,20 +41,20 @@ leftBy (Event e) m = appliedState e m
 leftBy (Map n) m = m
 leftBy Bad m = m
 
--- ---- a line, printed at a place of a buffer; without room for the longest text nothing is done
+-- ---- a line, printed at a place of a buffer; without roomForLongest for the longest text nothing is done
 
 -- the longest text is shorter
 abbrev pub most : ℕ
 most = 2800
 
-abbrev pub room : List ℕ → ℕ → Bool
-room out at = leb (at + most) (length out)
+abbrev pub roomForLongest : List ℕ → ℕ → Bool
+roomForLongest out at = leb (at + most) (length out)
 
 unfoldable pub placeAfter : List ℕ → ℕ → List ℕ → List ℕ → ℕ → ℕ
-placeAfter line number m out at = cond (room out at) (at + length (textOf (commandOf line) number m)) at
+placeAfter line number m out at = cond (roomForLongest out at) (at + length (textOf (commandOf line) number m)) at
 
 unfoldable pub bytesAfter : List ℕ → ℕ → List ℕ → List ℕ → ℕ → List ℕ
-bytesAfter line number m out at = cond (room out at) (over out at (textOf (commandOf line) number m)) out
+bytesAfter line number m out at = cond (roomForLongest out at) (over out at (textOf (commandOf line) number m)) out
 
 unfoldable pub stateAfter : List ℕ → List ℕ → List ℕ → ℕ → List ℕ
-stateAfter line m out at = cond (room out at) (leftBy (commandOf line) m) m
+stateAfter line m out at = cond (roomForLongest out at) (leftBy (commandOf line) m) m

@@ -20,7 +20,7 @@ use Rattle.regions.specs.Rules.{decided}
 use Rattle.regions.specs.Words.{startAt, endAt, cidcfgrAt, base, sub, enableBit, secBit, privcBit, srcidBit, privBit, rdenBit, wrenBit, readBit, writeBit}
 use Rattle.regions.proofs.NamedBits.{Sub, Region, decided-same}
 use Rattle.risaf.specs.Contents.{headWords, guardWords}
-use Rattle.risaf.specs.Memory.{memoryAnswer, recorded, recordedFault, faulted, memoryStepped}
+use Rattle.risaf.specs.Memory.{memoryAnswer, iaesrOf, recordedFault, faulted, memoryStepped}
 use Rattle.risaf.specs.Rows.{PlacedIn, ofHead, ofBase, ofSub, rowOf}
 use Rattle.risaf.specs.declared.contents.Guard.{Guard}
 use Rattle.risaf.specs.declared.guards.Shape.{Shape}
@@ -47,9 +47,9 @@ module _ {n : ℕ} {G g : Guard} (has : Has n G) (own : Alike Kept G g g) (o : �
         regions = own .regions;
       }
     where
-      iaesr : (b : Bool) → Kept (G .iaesr) (cond b (g .iaesr) (merged 32 (g .iaesr) (recorded k) (ofHead Iaesr .named))) (g .iaesr)
+      iaesr : (b : Bool) → Kept (G .iaesr) (cond b (g .iaesr) (merged 32 (g .iaesr) (iaesrOf k) (ofHead Iaesr .named))) (g .iaesr)
       iaesr true = own .iaesr
-      iaesr false = kept-merged _ (G .iaesr) (g .iaesr) (recorded k) (has (OfHead Iaesr) tt)
+      iaesr false = kept-merged _ (G .iaesr) (g .iaesr) (iaesrOf k) (has (OfHead Iaesr) tt)
 
       iaddr : (b : Bool) → Kept (G .iaddr) (cond b (g .iaddr) o) (g .iaddr)
       iaddr true = own .iaddr
@@ -69,10 +69,10 @@ module _ {n : ℕ} {G g g′ : Guard} (has : Has n G) (same : Alike Same G g g�
       }
     where
       iaesr : (b : Bool)
-          → Same (G .iaesr) (cond b (g .iaesr) (merged 32 (g .iaesr) (recorded k) (ofHead Iaesr .named)))
-          (cond b (g′ .iaesr) (merged 32 (g′ .iaesr) (recorded k) (ofHead Iaesr .named)))
+          → Same (G .iaesr) (cond b (g .iaesr) (merged 32 (g .iaesr) (iaesrOf k) (ofHead Iaesr .named)))
+          (cond b (g′ .iaesr) (merged 32 (g′ .iaesr) (iaesrOf k) (ofHead Iaesr .named)))
       iaesr true = same .iaesr
-      iaesr false = same-merged _ (G .iaesr) (g .iaesr) (g′ .iaesr) (recorded k) (same .iaesr)
+      iaesr false = same-merged _ (G .iaesr) (g .iaesr) (g′ .iaesr) (iaesrOf k) (same .iaesr)
 
       iaddr : (b : Bool) → Same (G .iaddr) (cond b (g .iaddr) o) (cond b (g′ .iaddr) o)
       iaddr true = same .iaddr

@@ -8,7 +8,7 @@ use lib.Dec.{eqb, ltb, leb, lit<}
 use borrow.Author.Tests.{le-leb, lt-leb, ltb-true, ne-eqb}
 use Rattle.access.specs.Offset.{within}
 use Rattle.regions.specs.Words.{mostRegions}
-use Rattle.risaf.specs.Registers.{blockOf, subRegister, regionRegister, registerAt}
+use Rattle.risaf.specs.Registers.{regionAt, subRegister, regionRegister, registerAt}
 use Rattle.risaf.specs.Rows.{PlacedIn, Placed}
 use Rattle.risaf.specs.declared.registers.Register.{Register}
 use Rattle.risaf.specs.declared.registers.Register.the-variants.{Unknown}
@@ -27,14 +27,14 @@ outside a b n out = go (decLt n a)
 
 -- ---- the block of a base region
 
-pub block-is : (x o : ℕ) → x < mostRegions → 0x040 + 0x40 * x ≤ o → o < 0x080 + 0x40 * x → x ≡ blockOf o
-unfolding blockOf
+pub block-is : (x o : ℕ) → x < mostRegions → 0x040 + 0x40 * x ≤ o → o < 0x080 + 0x40 * x → x ≡ regionAt o
+unfolding regionAt
 block-is x o h l m =
     let e : x ≡ (o - 0x040) / 0x40 = omega arith in
     simp (inside 0x040 0x2ff o (omega arith) (omega arith)) e
 
-pub no-block : (o : ℕ) → (0x040 ≤ o → 0x2ff < o) → mostRegions ≡ blockOf o
-unfolding blockOf
+pub no-block : (o : ℕ) → (0x040 ≤ o → 0x2ff < o) → mostRegions ≡ regionAt o
+unfolding regionAt
 no-block o out = simp (outside 0x040 0x2ff o out)
 
 -- ---- one subregion, one base region
@@ -73,7 +73,7 @@ module _ (x k : ℕ) where
 
 -- none of the registers that stand alone
 pub region-at : (n o : ℕ) {x : ℕ} {t : Bool} → (o ≡ 0x000 → ⊥) → (o ≡ 0x008 → ⊥) → (o ≡ 0x00c → ⊥) → (o ≡ 0x020 → ⊥) → (o ≡ 0x024 → ⊥)
-    → x ≡ blockOf o → (ltb x n && ltb x mostRegions) ≡ t → cond t (regionRegister x (o % 0x40)) Unknown ≡ registerAt n o
+    → x ≡ regionAt o → (ltb x n && ltb x mostRegions) ≡ t → cond t (regionRegister x (o % 0x40)) Unknown ≡ registerAt n o
 unfolding registerAt
 region-at n o a b c d e ex et =
     simp (ne-eqb o 0x000 a, ne-eqb o 0x008 b, ne-eqb o 0x00c c, ne-eqb o 0x020 d, ne-eqb o 0x024 e, ← ex, et)
@@ -104,7 +104,7 @@ module _ (m : ℕ) where
       (placed (within 0x20 0x2f k) _ _ (λ e. sub-placed x 1 (k - 0x20) h (lit< tt)) tt)))))
 
   -- where a block that is the guard's is one of m
-  register-in : (n o : ℕ) → ((ltb (blockOf o) n && ltb (blockOf o) mostRegions) ≡ true → blockOf o < m) → PlacedIn m (registerAt n o)
+  register-in : (n o : ℕ) → ((ltb (regionAt o) n && ltb (regionAt o) mostRegions) ≡ true → regionAt o < m) → PlacedIn m (registerAt n o)
   unfolding registerAt
   register-in n o among =
       placed (eqb o 0x000) _ _ (λ e. tt)
@@ -112,7 +112,7 @@ module _ (m : ℕ) where
       (placed (eqb o 0x00c) _ _ (λ e. tt)
       (placed (eqb o 0x020) _ _ (λ e. tt)
       (placed (eqb o 0x024) _ _ (λ e. tt)
-      (placed (ltb (blockOf o) n && ltb (blockOf o) mostRegions) _ _ (λ e. region-placed (blockOf o) (o % 0x40) (among e)) tt)))))
+      (placed (ltb (regionAt o) n && ltb (regionAt o) mostRegions) _ _ (λ e. region-placed (regionAt o) (o % 0x40) (among e)) tt)))))
 
 and-left : (a b : Bool) → (a && b) ≡ true → a ≡ true
 and-left true b e = refl
@@ -123,7 +123,7 @@ and-right true b e = e
 and-right false b e = cc
 
 pub register-placed : (n o : ℕ) → Placed (registerAt n o)
-register-placed n o = register-in mostRegions n o (λ e. ltb-true _ _ (and-right (ltb (blockOf o) n) (ltb (blockOf o) mostRegions) e))
+register-placed n o = register-in mostRegions n o (λ e. ltb-true _ _ (and-right (ltb (regionAt o) n) (ltb (regionAt o) mostRegions) e))
 
 pub register-own : (n o : ℕ) → PlacedIn n (registerAt n o)
-register-own n o = register-in n n o (λ e. ltb-true _ _ (and-left (ltb (blockOf o) n) (ltb (blockOf o) mostRegions) e))
+register-own n o = register-in n n o (λ e. ltb-true _ _ (and-left (ltb (regionAt o) n) (ltb (regionAt o) mostRegions) e))

@@ -8,20 +8,20 @@ use lib.Dec.{eqb, leb, lit≤, lit<}
 use lib.ListN.{length, getD}
 use borrow.Author.Tests.{leb-true, eqb-true}
 use Rattle.regions.specs.Words.{mostRegions}
-use Rattle.risaf.specs.Guards.{Row, guards, guardCount, shaped, flagOf, shapeIn, shapeOf, isGuard}
+use Rattle.risaf.specs.Guards.{GuardRow, guards, guardCount, shaped, flagOf, shapeIn, shapeOf, isGuard}
 use Rattle.risaf.specs.declared.guards.Shape.{Shape}
 
 -- a row past the table's end
-abbrev pub noRow : Row
+abbrev pub noRow : GuardRow
 noRow = record { number = 0; regions = 0; window = 0 }
 
-abbrev rowAt : List Row → ℕ → Row
+abbrev rowAt : List GuardRow → ℕ → GuardRow
 rowAt gs i = getD gs i noRow
 
 -- ---- by the rows of a table
 
 module _ (P : Shape → Type 0) (n : ℕ) (none : P (record { there = false; place = 0; regions = 0; window = 0; flag = record { 0 = 0 } })) where
-  by-rows : (gs : List Row) (place : ℕ)
+  by-rows : (gs : List GuardRow) (place : ℕ)
       → ((i : ℕ) → i < length gs → n ≡ rowAt gs i .number
       → P (shaped (place + i) (rowAt gs i .regions) (rowAt gs i .window) (flagOf n)))
       → P (shapeIn gs place n)
@@ -51,7 +51,7 @@ module _ (P : Shape → Type 0) (n : ℕ) (none : P (record { there = false; pla
 
 -- ---- a test that every row passes
 
-every : (Row → Bool) → List Row → Bool
+every : (GuardRow → Bool) → List GuardRow → Bool
 every t [] = true
 every t (g ∷ gs) = t g && every t gs
 
@@ -63,14 +63,14 @@ and-right : (a b : Bool) → (a && b) ≡ true → b ≡ true
 and-right true b e = e
 and-right false b e = cc
 
-passed : (t : Row → Bool) (gs : List Row) → every t gs ≡ true → (i : ℕ) → i < length gs → t (rowAt gs i) ≡ true
+passed : (t : GuardRow → Bool) (gs : List GuardRow) → every t gs ≡ true → (i : ℕ) → i < length gs → t (rowAt gs i) ≡ true
 unfolding every
 passed t [] e i h = absurd (omega arith)
 passed t (g ∷ gs) e zero h = and-left (t g) (every t gs) e
 passed t (g ∷ gs) e (suc i) h = passed t gs (and-right (t g) (every t gs) e) i (omega arith)
 
 -- no more base regions than there can be, and a window of at most 2^32
-fits : Row → Bool
+fits : GuardRow → Bool
 fits g = leb (g .regions) mostRegions && leb (g .window) (2 ^ 32)
 
 all-fit : every fits guards ≡ true

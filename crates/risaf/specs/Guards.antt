@@ -7,16 +7,16 @@ use lib.ListN.{length}
 use Rattle.risaf.specs.declared.guards.Shape.{Shape}
 
 -- a row of the table of guards
-pub record Row : Type 0 where
+pub record GuardRow : Type 0 where
   pub number : ℕ
   pub regions : ℕ
   pub window : ℕ
 
-abbrev guard : ℕ → ℕ → ℕ → Row
+abbrev guard : ℕ → ℕ → ℕ → GuardRow
 guard n regions window = record { number = n; regions = regions; window = window }
 
 -- the table of guards, in rising number: number, base regions, window size
-abbrev pub guards : List Row
+abbrev pub guards : List GuardRow
 guards =
     guard 1 7 (2 ^ 30)
     ∷ guard 2 7 (2 ^ 20)
@@ -45,7 +45,7 @@ shaped place regions window flag =
     record { there = true; place = place; regions = regions; window = window; flag = record { 0 = flag } }
 
 -- the shape of guard n by the rows of a table whose first has this place
-unfoldable pub shapeIn : List Row → ℕ → ℕ → Shape
+unfoldable pub shapeIn : List GuardRow → ℕ → ℕ → Shape
 shapeIn [] place n = record { there = false; place = 0; regions = 0; window = 0; flag = record { 0 = 0 } }
 shapeIn (g ∷ gs) place n =
     cond (eqb n (g .number)) (shaped place (g .regions) (g .window) (flagOf n)) (shapeIn gs (suc place) n)

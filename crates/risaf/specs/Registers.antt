@@ -11,8 +11,8 @@ use Rattle.risaf.specs.declared.registers.Register.{Register}
 use Rattle.risaf.specs.declared.registers.Register.the-variants.{OfHead, OfBase, OfSub, Unknown}
 
 -- the base region, from 0, whose block of 0x40 an offset lies in, from 0x040 on; as many as there can be, where it lies in none
-unfoldable pub blockOf : ℕ → ℕ
-blockOf o = cond (within 0x040 0x2ff o) ((o - 0x040) / 0x40) mostRegions
+unfoldable pub regionAt : ℕ → ℕ
+regionAt o = cond (within 0x040 0x2ff o) ((o - 0x040) / 0x40) mostRegions
 
 -- register k of subregion s of base region x
 unfoldable pub subRegister : ℕ → ℕ → ℕ → Register
@@ -42,5 +42,5 @@ registerAt n o =
     (cond (eqb o 0x00c) (OfHead Iacr)
     (cond (eqb o 0x020) (OfHead Iaesr)
     (cond (eqb o 0x024) (OfHead Iaddr)
-    (cond (ltb (blockOf o) n && ltb (blockOf o) mostRegions) (regionRegister (blockOf o) (o % 0x40))
+    (cond (ltb (regionAt o) n && ltb (regionAt o) mostRegions) (regionRegister (regionAt o) (o % 0x40))
     Unknown)))))

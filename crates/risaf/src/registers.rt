@@ -1,7 +1,7 @@
 use regions::places::MOST_REGIONS;
 ghost use mathlib.Core.Bool.{cond};
 ghost use mathlib.Core.Path.{_≡_};
-ghost use Rattle.risaf.specs.Registers.{blockOf, regionRegister, registerAt, subRegister};
+ghost use Rattle.risaf.specs.Registers.{regionAt, regionRegister, registerAt, subRegister};
 
 // A register that is none of a region's.
 pub enum Head {
@@ -39,8 +39,8 @@ pub enum Register {
 const BLOCK: u32 = 0x40;
 
 // The base region, from 0, whose block an offset lies in; as many as there can be, where it lies in none.
-fn block_of(offset: u32) -> usize
-    ensures { λ r. ⌜ r ≡ blockOf offset ⌝ }
+fn region_at(offset: u32) -> usize
+    ensures { λ r. ⌜ r ≡ regionAt offset ⌝ }
 {
     match offset {
         0x040..=0x07f => 0,
@@ -97,7 +97,7 @@ pub(crate) fn register_at(n: usize, offset: u32) -> Register
         0x020 => Register::OfHead(Head::Iaesr),
         0x024 => Register::OfHead(Head::Iaddr),
         _ => {
-            let x = block_of(offset);
+            let x = region_at(offset);
             if (x < n) & (x < MOST_REGIONS) {
                 region_register(x, offset % BLOCK)
             } else {

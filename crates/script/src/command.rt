@@ -5,7 +5,7 @@ use crate::events::register;
 use crate::fields::LINE_MOST;
 use crate::fields::STARTS;
 use crate::fields::cut;
-use crate::fields::field;
+use crate::fields::field_at;
 use crate::fields::is;
 use crate::numbers::Number;
 use crate::numbers::decimal_at;
@@ -44,7 +44,7 @@ fn by_keyword(line: &[u8], starts: &[u8; STARTS], n: usize) -> Command
     requires { ⌜ Cut (now line) (now starts) × (n ≡ length (fieldsOf (now line))) ⌝ }
     ensures { λ r. ⌜ r ≡ commandIn (fieldsOf (now (line .entry))) ⌝ }
 {
-    let word = field(line, starts, 0);
+    let word = field_at(line, starts, 0);
     if is(word, b"reset") {
         return if n == 1 {
             Command::Event(Event::Reset)

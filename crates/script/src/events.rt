@@ -1,6 +1,6 @@
 use crate::command::Command;
 use crate::fields::STARTS;
-use crate::fields::field;
+use crate::fields::field_at;
 use crate::fields::is;
 use crate::numbers::Action;
 use crate::numbers::Choice;
@@ -41,7 +41,7 @@ enum Target {
 }
 
 // s/n p/u, from field k on
-fn rights_at(line: &[u8], starts: &[u8; STARTS], k: usize) -> Rights
+fn rights_fields(line: &[u8], starts: &[u8; STARTS], k: usize) -> Rights
     requires { ⌜ Cut (now line) (now starts) × (k + 1 < length (fieldsOf (now line))) × (k < 8) ⌝ }
     ensures { λ r. ⌜ r ≡ rightsFields (fieldsOf (now (line .entry))) k ⌝ }
 {
@@ -91,7 +91,7 @@ fn request(line: &[u8], starts: &[u8; STARTS], n: usize, k: usize, block: Block)
     let Number::Value(value) = hex_at(line, starts, k + 2) else {
         return Command::Bad;
     };
-    let Rights::Are(secure, privileged) = rights_at(line, starts, k + 3) else {
+    let Rights::Are(secure, privileged) = rights_fields(line, starts, k + 3) else {
         return Command::Bad;
     };
     Command::Event(Event::Register(RegisterAccess {
@@ -114,7 +114,7 @@ pub(crate) fn register(line: &[u8], starts: &[u8; STARTS], n: usize) -> Command
     if n < 3 {
         return Command::Bad;
     }
-    let block = field(line, starts, 1);
+    let block = field_at(line, starts, 1);
     if is(block, b"rifsc") {
         return request(line, starts, n, 2, Block::Rifsc);
     }
@@ -144,7 +144,7 @@ pub(crate) fn peripheral(line: &[u8], starts: &[u8; STARTS], n: usize) -> Comman
     let Action::Of(operation) = operation_at(line, starts, 2) else {
         return Command::Bad;
     };
-    let Rights::Are(secure, privileged) = rights_at(line, starts, 3) else {
+    let Rights::Are(secure, privileged) = rights_fields(line, starts, 3) else {
         return Command::Bad;
     };
     Command::Event(Event::Peripheral(PeripheralAccess {
@@ -169,7 +169,7 @@ pub(crate) fn memory(line: &[u8], starts: &[u8; STARTS], n: usize) -> Command
     let Number::Value(cid) = decimal_at(line, starts, 5) else {
         return Command::Bad;
     };
-    let Rights::Are(secure, privileged) = rights_at(line, starts, 6) else {
+    let Rights::Are(secure, privileged) = rights_fields(line, starts, 6) else {
         return Command::Bad;
     };
     Command::Event(Event::Memory(MemoryAccess {

@@ -36,7 +36,7 @@ fn wide(x: u8) -> usize
 }
 
 // Field k, as a part of the line.
-pub(crate) fn field<'a>(line: &'a [u8], starts: &[u8; STARTS], k: usize) -> &'a [u8]
+pub(crate) fn field_at<'a>(line: &'a [u8], starts: &[u8; STARTS], k: usize) -> &'a [u8]
     requires { ⌜ Cut (now line) (now starts) × (k < length (fieldsOf (now line))) ⌝ }
     ensures { λ r. ⌜ now r ≡ fieldAt (fieldsOf (now (line .entry))) k ⌝ }
 {

@@ -1,5 +1,5 @@
 use crate::fields::STARTS;
-use crate::fields::field;
+use crate::fields::field_at;
 use device::Operation;
 ghost use mathlib.Core.Path.{_≡_};
 ghost use mathlib.Core.Bool.{true};
@@ -125,26 +125,26 @@ pub(crate) fn hex_at(line: &[u8], starts: &[u8; STARTS], k: usize) -> Number
     requires { ⌜ Cut (now line) (now starts) × (k < length (fieldsOf (now line))) ⌝ }
     ensures { λ r. ⌜ r ≡ hexOf (fieldAt (fieldsOf (now (line .entry))) k) ⌝ }
 {
-    hex(field(line, starts, k))
+    hex(field_at(line, starts, k))
 }
 
 pub(crate) fn decimal_at(line: &[u8], starts: &[u8; STARTS], k: usize) -> Number
     requires { ⌜ Cut (now line) (now starts) × (k < length (fieldsOf (now line))) ⌝ }
     ensures { λ r. ⌜ r ≡ decimalOf (fieldAt (fieldsOf (now (line .entry))) k) ⌝ }
 {
-    decimal(field(line, starts, k))
+    decimal(field_at(line, starts, k))
 }
 
 pub(crate) fn either_at(line: &[u8], starts: &[u8; STARTS], k: usize, this: u8, that: u8) -> Choice
     requires { ⌜ Cut (now line) (now starts) × (k < length (fieldsOf (now line))) ⌝ }
     ensures { λ r. ⌜ r ≡ eitherOf this that (fieldAt (fieldsOf (now (line .entry))) k) ⌝ }
 {
-    either(field(line, starts, k), this, that)
+    either(field_at(line, starts, k), this, that)
 }
 
 pub(crate) fn operation_at(line: &[u8], starts: &[u8; STARTS], k: usize) -> Action
     requires { ⌜ Cut (now line) (now starts) × (k < length (fieldsOf (now line))) ⌝ }
     ensures { λ r. ⌜ r ≡ operationOf (fieldAt (fieldsOf (now (line .entry))) k) ⌝ }
 {
-    operation(field(line, starts, k))
+    operation(field_at(line, starts, k))
 }

@@ -17,12 +17,12 @@ use Rattle.iac.specs.Contents.{stored as iac-stored, reset as iac-reset}
 use Rattle.iac.specs.Port.{readOf as iac-readOf, checksOf as iac-checksOf, answerOf as iac-answerOf, written as iac-written, stepped as iac-stepped}
 use Rattle.iac.specs.Flags.{raise, raised}
 use Rattle.risaf.specs.Guards.{shapeIn, shapeOf}
-use Rattle.risaf.specs.Registers.{blockOf, subRegister, regionRegister, registerAt}
+use Rattle.risaf.specs.Registers.{regionAt, subRegister, regionRegister, registerAt}
 use Rattle.risaf.specs.Rows.{ofHead, ofBase, ofSub, rowOf}
 use Rattle.risaf.specs.Contents.{withWord, reset}
 use Rattle.risaf.specs.Port.{portIn, readOf, delegated, allowedOf, subcfgrWritten, wordIn, checksOf, answerOf, accessed, stepped}
 use Rattle.regions.specs.Rules.{decided}
-use Rattle.regions.specs.Rights.{rights}
+use Rattle.regions.specs.Rights.{rightsWord}
 use Rattle.risaf.specs.Memory.{memoryChecks, memoryAnswer, recordedFault, faulted, memoryStepped}
 use Rattle.device.specs.State.{State, guardOf, withGuard, resetState}
 use Rattle.device.specs.Step.{registerStep, peripheralStep, memoryStep, step}
@@ -88,7 +88,7 @@ hold (x ∷ xs) h = let p = both _ _ h in (holds x resetState (p .0), hold xs (p
 -- ---- the examples, and the wrong readings
 
 passed : (pass worked ≡ true) × (pass readings ≡ true)
-unfolding pass passes same swept worked readings flat sweptMap sweepFrom nextOf boundsOf join pairsOf rightsOf rights masked merged united withBit answered reached rifsc-registerAt ppsr rifsc-rowOf rifsc-stored rifsc-withStored rifsc-seen rifsc-reset rifsc-readOf takes rifsc-wordWritten rifsc-checksOf rifsc-answerOf rifsc-written rifsc-stepped iac-registerAt iisr iac-rowOf iac-stored iac-reset iac-readOf iac-checksOf iac-answerOf iac-written iac-stepped raise raised shapeIn shapeOf blockOf subRegister regionRegister registerAt ofHead ofBase ofSub rowOf withWord reset portIn readOf delegated allowedOf subcfgrWritten wordIn checksOf answerOf accessed stepped decided memoryChecks memoryAnswer recordedFault faulted memoryStepped guardOf withGuard resetState registerStep peripheralStep exists filterOf grants memoryStep step
+unfolding pass passes same swept worked readings flat sweptMap sweepFrom nextOf boundsOf join pairsOf rightsOf rightsWord masked merged united withBit answered reached rifsc-registerAt ppsr rifsc-rowOf rifsc-stored rifsc-withStored rifsc-seen rifsc-reset rifsc-readOf takes rifsc-wordWritten rifsc-checksOf rifsc-answerOf rifsc-written rifsc-stepped iac-registerAt iisr iac-rowOf iac-stored iac-reset iac-readOf iac-checksOf iac-answerOf iac-written iac-stepped raise raised shapeIn shapeOf regionAt subRegister regionRegister registerAt ofHead ofBase ofSub rowOf withWord reset portIn readOf delegated allowedOf subcfgrWritten wordIn checksOf answerOf accessed stepped decided memoryChecks memoryAnswer recordedFault faulted memoryStepped guardOf withGuard resetState registerStep peripheralStep exists filterOf grants memoryStep step
 passed = (refl, refl)
 
 pub all-hold : AllHold worked

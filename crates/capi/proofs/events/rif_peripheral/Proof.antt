@@ -9,14 +9,14 @@ use Rattle.capi.proofs.events.rif_peripheral.Tie as tie
 returns : tie.Need-returns
 unfolding peripheralAsked askedState
 returns c =
-    rw (sym (c .before .before .before .before .operation-of .ensures) ∙ c .before .before .enum-told .given .1) (c .nothing .ensures, refl)
+    rw (sym (c .before .before .before .before .operation-numbered .ensures) ∙ c .before .before .enum-told .given .1) (c .nothing .ensures, refl)
 
 returns-2 : tie.Need-returns-2
 unfolding peripheralAsked askedAnswer askedState
 returns-2 c =
     let u = c .before .before .before .apply-peripheral in
     let n = c .before .before .before .before .before .before in
-    rw (sym (n .before .before .operation-of .ensures) ∙ n .operation .given .1) (c .encoded .ensures ∙ ap encodedOf (u .ensures .0), u .ensures .1)
+    rw (sym (n .before .before .operation-numbered .ensures) ∙ n .operation .given .1) (c .encoded .ensures ∙ ap encodedOf (u .ensures .0), u .ensures .1)
 
 pub rif-peripheral-spec : {M : Type 1} → statement M
 rif-peripheral-spec =

@@ -9,7 +9,7 @@ use Rattle.device.proofs.blocks.six.Tie as tie
 returns : tie.Need-returns
 returns c =
     let s = c .before .before .before .before .before in
-    c .before .put .ensures ∙ rw add-sub-cancel-left (read-words bitWords (s .args .state .now) (s .args .at) (s .pre))
+    c .before .copy-words .ensures ∙ rw add-sub-cancel-left (read-words bitWords (s .args .state .now) (s .args .at) (s .pre))
 
 pub six-spec : {M : Type 1} → statement M
 six-spec =

@@ -9,7 +9,7 @@ returns : tie.Need-returns
 returns c =
     let s = c .before .before .before .before .before .before in
     let a = s .args in
-    ap stateOf (c .before .before .put .ensures) ∙ guard-stored (a .state .now) (a .place) (a .words .now) (s .pre .0) (s .pre .1) (s .pre .2)
+    ap stateOf (c .before .before .copy-words .ensures) ∙ guard-stored (a .state .now) (a .place) (a .words .now) (s .pre .0) (s .pre .1) (s .pre .2)
 
 pub store-guard-spec : {M : Type 1} → statement M
 store-guard-spec =

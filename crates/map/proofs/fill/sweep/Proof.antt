@@ -4,7 +4,7 @@ use Prim.Native.Nat.{_-_}
 use native.Mathlib.Omega.{arith}
 use denote.Ref.{now}
 use borrow.Author.Needs.{needs}
-use Rattle.regions.specs.Rights.{rights}
+use Rattle.regions.specs.Rights.{rightsWord}
 use Rattle.spans.specs.Sweep.{boundsOf}
 use Rattle.spans.proofs.Bounds.{next-above}
 use Rattle.spans.proofs.Fill.{Swept, swept-begin, swept-turn, swept-end}
@@ -15,7 +15,7 @@ use Rattle.map.proofs.fill.sweep.Statement.{statement}
 use Rattle.map.proofs.fill.sweep.Tie as tie
 
 abbrev Inv-loop : tie.InvT-loop
-Inv-loop w n window lent₀ at₀ count₀ lent at count = Swept (rights w n) (boundsOf (pairsOf w n)) window lent₀ at count lent
+Inv-loop w n window lent₀ at₀ count₀ lent at count = Swept (rightsWord w n) (boundsOf (pairsOf w n)) window lent₀ at count lent
 
 abbrev μ-loop : tie.MeasureT-loop
 μ-loop w n window lent₀ at₀ count₀ lent at count = window - at

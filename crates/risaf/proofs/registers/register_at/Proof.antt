@@ -30,13 +30,13 @@ returns-6 c =
     let b = c .before .before in
     let r = b .before .match .rest in
     c .region-register .ensures
-    ∙ region-at _ _ (r .0 .0 .0 .0 .1) (r .0 .0 .0 .1) (r .0 .0 .1) (r .0 .1) (r .1) (b .block-of .ensures) (c .before .if1 .taken)
+    ∙ region-at _ _ (r .0 .0 .0 .0 .1) (r .0 .0 .0 .1) (r .0 .0 .1) (r .0 .1) (r .1) (b .region-at .ensures) (c .before .if1 .taken)
 
 returns-7 : tie.Need-returns-7
 returns-7 c =
     let b = c .before in
     let r = b .before .match .rest in
-    region-at _ _ (r .0 .0 .0 .0 .1) (r .0 .0 .0 .1) (r .0 .0 .1) (r .0 .1) (r .1) (b .block-of .ensures) (c .if1 .left)
+    region-at _ _ (r .0 .0 .0 .0 .1) (r .0 .0 .0 .1) (r .0 .0 .1) (r .0 .1) (r .1) (b .region-at .ensures) (c .if1 .left)
 
 pub register-at-spec : {M : Type 1} → statement M
 register-at-spec =

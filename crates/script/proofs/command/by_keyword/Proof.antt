@@ -10,15 +10,15 @@ use Rattle.script.proofs.Lines.{its-count, other-count, its-keyword, ot
 use Rattle.script.proofs.command.by_keyword.Statement.{statement}
 use Rattle.script.proofs.command.by_keyword.Tie as tie
 
-abbrev fields : tie.After-field → List (List ℕ)
+abbrev fields : tie.After-field-at → List (List ℕ)
 fields c = fieldsOf (c .before .before .args .line .now)
 
 -- the line is none of the first k
-abbrev Past : ℕ → tie.After-field → Type 0
-Past k c = commandIn (fields c) ≡ byKeyword (c .field .result .now) (drop k (linesOf (fields c)))
+abbrev Past : ℕ → tie.After-field-at → Type 0
+Past k c = commandIn (fields c) ≡ byKeyword (c .field-at .result .now) (drop k (linesOf (fields c)))
 
-past0 : (c : tie.After-field) → Past 0 c
-past0 c = ap (λ (w : List ℕ). byKeyword w (linesOf (fields c))) (sym (c .field .ensures))
+past0 : (c : tie.After-field-at) → Past 0 c
+past0 c = ap (λ (w : List ℕ). byKeyword w (linesOf (fields c))) (sym (c .field-at .ensures))
 
 past1 : (c : tie.Else1) → Past 1 (c .before .before .before)
 unfolding linesOf
@@ -44,8 +44,8 @@ past6 : (c : tie.Else7) → Past 6 (c .before .before .before .before .before .b
 unfolding linesOf
 past6 c = past5 (c .before .before .before) ∙ other-keyword _ _ _ (told (c .before .is6 .ensures) (c .if7 .left))
 
-field-requires : tie.Need-field-requires
-field-requires c κs = (c .before .pre .0, some-field _)
+field-at-requires : tie.Need-field-at-requires
+field-at-requires c κs = (c .before .pre .0, some-field _)
 
 returns : tie.Need-returns
 unfolding linesOf resetLine
@@ -100,7 +100,7 @@ returns-8 c = sym (past6 c)
 pub by-keyword-spec : {M : Type 1} → statement M
 by-keyword-spec =
     tie.close
-    (tie.spec field-requires (λ c. refl) (λ c κs. tt) returns returns-2 (λ c. refl) (λ c κs. tt)
+    (tie.spec field-at-requires (λ c. refl) (λ c κs. tt) returns returns-2 (λ c. refl) (λ c κs. tt)
     (λ c κs. c .before .before .before .before .before .before .before .before .pre) returns-3 (λ c. refl) (λ c κs. tt)
     (λ c κs. c .before .before .before .before .before .before .before .before .before .before .before .pre) returns-4
     (λ c. refl) (λ c κs. tt)

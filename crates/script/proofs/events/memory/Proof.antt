@@ -38,7 +38,7 @@ returns-4 c =
       its-count 8 _ (guard .before .before .before .before .before .pre .1) (guard .before .before .before .if1 .left),
       told (guard .before .before .target-at .ensures) (guard .guard .given .1),
       told (cid .before .before .decimal-at .ensures) (cid .cid .given .1),
-      told (c .before .before .rights-at .ensures) (c .enum-told3 .given .1),
+      told (c .before .before .rights-fields .ensures) (c .enum-told3 .given .1),
     )
 
 returns-5 : tie.Need-returns-5
@@ -51,7 +51,7 @@ returns-5 c =
       its-count 8 _ (guard .before .before .before .before .before .pre .1) (guard .before .before .before .if1 .left),
       told (guard .before .before .target-at .ensures) (guard .guard .given .1),
       told (cid .before .before .decimal-at .ensures) (cid .cid .given .1),
-      told (secure .before .before .rights-at .ensures) (secure .secure .given .1),
+      told (secure .before .before .rights-fields .ensures) (secure .secure .given .1),
     )
 
 pub memory-spec : {M : Type 1} → statement M

@@ -38,7 +38,7 @@ returns-4 c =
       its-count 5 _ (p .before .before .before .before .before .pre .1) (p .before .before .before .if1 .left),
       told (p .before .before .decimal-at .ensures) (p .p .given .1),
       told (operation .before .before .operation-at .ensures) (operation .operation .given .1),
-      told (c .before .before .rights-at .ensures) (c .enum-told3 .given .1),
+      told (c .before .before .rights-fields .ensures) (c .enum-told3 .given .1),
     )
 
 returns-5 : tie.Need-returns-5
@@ -51,7 +51,7 @@ returns-5 c =
       its-count 5 _ (p .before .before .before .before .before .pre .1) (p .before .before .before .if1 .left),
       told (p .before .before .decimal-at .ensures) (p .p .given .1),
       told (operation .before .before .operation-at .ensures) (operation .operation .given .1),
-      told (secure .before .before .rights-at .ensures) (secure .secure .given .1),
+      told (secure .before .before .rights-fields .ensures) (secure .secure .given .1),
     )
 
 pub peripheral-spec : {M : Type 1} → statement M

@@ -15,15 +15,15 @@ use Rattle.script.proofs.Lines.{its-keyword, other-keyword, register-sh
 use Rattle.script.proofs.events.register.Statement.{statement}
 use Rattle.script.proofs.events.register.Tie as tie
 
-abbrev fields : tie.After-field → List (List ℕ)
+abbrev fields : tie.After-field-at → List (List ℕ)
 fields c = fieldsOf (c .before .before .before .args .line .now)
 
 -- the block is none of the first k
-abbrev Past : ℕ → tie.After-field → Type 0
-Past k c = registerLine (fields c) ≡ byKeyword (c .field .result .now) (drop k (blocksOf (fields c)))
+abbrev Past : ℕ → tie.After-field-at → Type 0
+Past k c = registerLine (fields c) ≡ byKeyword (c .field-at .result .now) (drop k (blocksOf (fields c)))
 
-past0 : (c : tie.After-field) → Past 0 c
-past0 c = ap (λ (w : List ℕ). byKeyword w (blocksOf (fields c))) (sym (c .field .ensures))
+past0 : (c : tie.After-field-at) → Past 0 c
+past0 c = ap (λ (w : List ℕ). byKeyword w (blocksOf (fields c))) (sym (c .field-at .ensures))
 
 past1 : (c : tie.Else2) → Past 1 (c .before .before .before)
 unfolding blocksOf

@@ -52,7 +52,7 @@ returns-5 c =
       told (offset .before .before .hex-at .ensures) (offset .offset .given .1),
       told (write .before .before .either-at .ensures) (write .write .given .1),
       told (value .before .before .hex-at2 .ensures) (value .value .given .1),
-      told (c .before .before .rights-at .ensures) (c .enum-told4 .given .1),
+      told (c .before .before .rights-fields .ensures) (c .enum-told4 .given .1),
     )
 
 returns-6 : tie.Need-returns-6
@@ -67,7 +67,7 @@ returns-6 c =
       told (offset .before .before .hex-at .ensures) (offset .offset .given .1),
       told (write .before .before .either-at .ensures) (write .write .given .1),
       told (value .before .before .hex-at2 .ensures) (value .value .given .1),
-      told (secure .before .before .rights-at .ensures) (secure .secure .given .1),
+      told (secure .before .before .rights-fields .ensures) (secure .secure .given .1),
     )
 
 pub request-spec : {M : Type 1} → statement M

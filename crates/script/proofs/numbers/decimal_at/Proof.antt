@@ -5,7 +5,7 @@ use Rattle.script.proofs.numbers.decimal_at.Statement.{statement}
 use Rattle.script.proofs.numbers.decimal_at.Tie as tie
 
 returns : tie.Need-returns
-returns c = c .decimal .ensures ∙ ap decimalOf (c .before .field .ensures)
+returns c = c .decimal .ensures ∙ ap decimalOf (c .before .field-at .ensures)
 
 pub decimal-at-spec : {M : Type 1} → statement M
 decimal-at-spec =

@@ -5,7 +5,7 @@ use Rattle.script.proofs.numbers.either_at.Statement.{statement}
 use Rattle.script.proofs.numbers.either_at.Tie as tie
 
 returns : tie.Need-returns
-returns c = c .either .ensures ∙ ap (eitherOf _ _) (c .before .field .ensures)
+returns c = c .either .ensures ∙ ap (eitherOf _ _) (c .before .field-at .ensures)
 
 pub either-at-spec : {M : Type 1} → statement M
 either-at-spec =

@@ -5,7 +5,7 @@ use Rattle.script.proofs.numbers.hex_at.Statement.{statement}
 use Rattle.script.proofs.numbers.hex_at.Tie as tie
 
 returns : tie.Need-returns
-returns c = c .hex .ensures ∙ ap hexOf (c .before .field .ensures)
+returns c = c .hex .ensures ∙ ap hexOf (c .before .field-at .ensures)
 
 pub hex-at-spec : {M : Type 1} → statement M
 hex-at-spec =

@@ -5,7 +5,7 @@ use Rattle.script.proofs.numbers.operation_at.Statement.{statement}
 use Rattle.script.proofs.numbers.operation_at.Tie as tie
 
 returns : tie.Need-returns
-returns c = c .operation .ensures ∙ ap operationOf (c .before .field .ensures)
+returns c = c .operation .ensures ∙ ap operationOf (c .before .field-at .ensures)
 
 pub operation-at-spec : {M : Type 1} → statement M
 operation-at-spec =

@@ -4,8 +4,8 @@ use native.Mathlib.Nat.{sub-zero}
 use native.Mathlib.Omega.{arith}
 use Rattle.script.specs.Fields.{fieldAt, fieldsOf}
 use Rattle.script.proofs.Cuts.{Part, placed, fields-few}
-use Rattle.script.proofs.fields.field.Statement.{statement}
-use Rattle.script.proofs.fields.field.Tie as tie
+use Rattle.script.proofs.fields.field_at.Statement.{statement}
+use Rattle.script.proofs.fields.field_at.Tie as tie
 
 abbrev start : tie.After-wide2 → tie.Start
 start c = c .before .before .before .before .before
@@ -42,8 +42,8 @@ part-result-end c = omega (arith, place c)
 returns : tie.Need-returns
 returns c = rw sub-zero at (place (c .before) .bytes)
 
-pub field-spec : {M : Type 1} → statement M
-field-spec =
+pub field-at-spec : {M : Type 1} → statement M
+field-at-spec =
     tie.close
     (tie.spec element-copy-out-wide (λ c κs. search needs) add-wide element-copy-out-wide-2 (λ c κs. search needs)
     sub-e sub-result part-result-start part-result-end returns)

@@ -1,7 +1,7 @@
 use native.Mathlib.Omega.{arith}
 use Rattle.risaf.proofs.RegisterMap.{block-is, no-block}
-use Rattle.risaf.proofs.registers.block_of.Statement.{statement}
-use Rattle.risaf.proofs.registers.block_of.Tie as tie
+use Rattle.risaf.proofs.registers.region_at.Statement.{statement}
+use Rattle.risaf.proofs.registers.region_at.Tie as tie
 
 returns : tie.Need-returns
 returns c = block-is _ _ (omega arith) (omega arith) (omega arith)
@@ -42,8 +42,8 @@ returns-12 c = no-block _ (λ h. omega arith)
 returns-13 : tie.Need-returns-13
 returns-13 c = no-block _ (λ h. omega arith)
 
-pub block-of-spec : {M : Type 1} → statement M
-block-of-spec =
+pub region-at-spec : {M : Type 1} → statement M
+region-at-spec =
     tie.close
     (tie.spec returns returns-2 returns-3 returns-4 returns-5 returns-6 returns-7 returns-8 returns-9 returns-10
     returns-11 returns-12 returns-13)

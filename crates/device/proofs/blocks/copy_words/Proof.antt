@@ -5,8 +5,8 @@ use native.Mathlib.Omega.{arith}
 use lib.ListN.{length, length-set}
 use lib.Seq.{paste, paste-zero}
 use Rattle.device.proofs.Parts.{paste-more}
-use Rattle.device.proofs.blocks.put.Statement.{statement}
-use Rattle.device.proofs.blocks.put.Tie as tie
+use Rattle.device.proofs.blocks.copy_words.Statement.{statement}
+use Rattle.device.proofs.blocks.copy_words.Tie as tie
 
 abbrev Inv-loop : tie.InvT-loop
 Inv-loop dst₀ at words k₀ k-end dst k =
@@ -33,8 +33,8 @@ returns c =
     let e : c .before .loop .k ≡ length (c .before .before .args .words .now) = omega arith in
     c .before .loop .inv .2 ∙ rw e
 
-pub put-spec : {M : Type 1} → statement M
-put-spec =
+pub copy-words-spec : {M : Type 1} → statement M
+copy-words-spec =
     tie.close
     (tie.spec Inv-loop μ-loop loop-holds (λ c. search needs) (λ c. search needs) (λ c. search needs)
     (λ c. search needs) (λ c. search needs) (λ c. search needs) (λ c. search needs) loop-again (λ c. search needs)

@@ -1,10 +1,10 @@
--- `script::events::rights_at` meets its contract: each field read so far says how the line goes on.
+-- `script::events::rights_fields` meets its contract: each field read so far says how the line goes on.
 use borrow.Author.Needs.{needs}
 use native.Mathlib.Omega.{arith}
 use Rattle.script.specs.Command.{rightsFields}
 use Rattle.script.proofs.Lines.{told}
-use Rattle.script.proofs.events.rights_at.Statement.{statement}
-use Rattle.script.proofs.events.rights_at.Tie as tie
+use Rattle.script.proofs.events.rights_fields.Statement.{statement}
+use Rattle.script.proofs.events.rights_fields.Tie as tie
 
 returns : tie.Need-returns
 unfolding rightsFields
@@ -30,8 +30,8 @@ returns-3 c =
       told (privileged .before .before .either-at2 .ensures) (privileged .privileged .given .1),
     )
 
-pub rights-at-spec : {M : Type 1} → statement M
-rights-at-spec =
+pub rights-fields-spec : {M : Type 1} → statement M
+rights-fields-spec =
     tie.close
     (tie.spec (λ c κs. (c .before .pre .0, omega arith)) (λ c. search needs) (λ c. search needs) returns (λ c. omega arith)
     (λ c κs. (c .before .before .before .before .before .pre .0, omega arith)) (λ c. search needs) (λ c. search needs) returns-2
