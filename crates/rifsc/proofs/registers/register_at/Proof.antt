@@ -113,39 +113,14 @@ returns-7 c =
       and-false,
     )
 
-returns-8 : tie.Need-returns-8
-returns-8 c =
-    let b = c .before .before in
-    none (b .before .args .offset) (b .match .rest .0 .1) (b .match .rest .1) (search needs)
-
-returns-9 : tie.Need-returns-9
-returns-9 c =
-    let b = c .before .before .before .before in
-    none (b .before .args .offset) (b .match .rest .0 .1) (b .match .rest .1) (search needs)
-
-returns-10 : tie.Need-returns-10
-returns-10 c =
-    let b = c .before .before .before .before .before .before in
-    none (b .before .args .offset) (b .match .rest .0 .1) (b .match .rest .1) (search needs)
-
-returns-11 : tie.Need-returns-11
-returns-11 c =
-    let b = c .before .before in
-    none (b .before .args .offset) (b .match .rest .0 .1) (b .match .rest .1) (search needs)
-
-returns-12 : tie.Need-returns-12
-returns-12 c =
-    let b = c .before .before .before .before in
-    none (b .before .args .offset) (b .match .rest .0 .1) (b .match .rest .1) (search needs)
-
-returns-13 : tie.Need-returns-13
-returns-13 c =
-    let b = c .before .before .before .before .before in
-    none (b .before .args .offset) (b .match .rest .0 .1) (b .match .rest .1) (search needs)
-
 pub register-at-spec : {M : Type 1} → statement M
 register-at-spec =
     tie.close
     (tie.spec (λ c. search needs) (λ c. search needs) (λ c. search needs) (λ c. search needs) (λ c. search needs)
-    returns returns-2 returns-3 returns-4 returns-5 returns-6 returns-7 returns-8 returns-9 returns-10 returns-11
-    returns-12 returns-13)
+    returns returns-2 returns-3 returns-4 returns-5 returns-6 returns-7
+    (λ c. let b = c .before .before in none (b .before .args .offset) (b .match .rest .0 .1) (b .match .rest .1) (search needs))
+    (λ c. let b = c .before .before .before .before in none (b .before .args .offset) (b .match .rest .0 .1) (b .match .rest .1) (search needs))
+    (λ c. let b = c .before .before .before .before .before .before in none (b .before .args .offset) (b .match .rest .0 .1) (b .match .rest .1) (search needs))
+    (λ c. let b = c .before .before in none (b .before .args .offset) (b .match .rest .0 .1) (b .match .rest .1) (search needs))
+    (λ c. let b = c .before .before .before .before in none (b .before .args .offset) (b .match .rest .0 .1) (b .match .rest .1) (search needs))
+    (λ c. let b = c .before .before .before .before .before in none (b .before .args .offset) (b .match .rest .0 .1) (b .match .rest .1) (search needs)))
