@@ -1,13 +1,13 @@
 -- What the machine's operators do to each bit, and what they compute in the words of Bit.antt.
 -- At width n the code's `!x` is (2 ^ n - 1) - x, `x >> k` is x / 2 ^ k, and `x << k` is (x * 2 ^ k) % 2 ^ n.
 use mathlib.Core.Path.{_≡_, refl, ap, _∙_}
-use mathlib.Core.Bool.{Bool, true, false, not, _&&_, _||_, cond, and-comm, and-true, and-false, or-true, or-false}
+use mathlib.Core.Bool.{Bool, true, false, not, _&&_, _||_, cond, Bool·beq, and-comm, and-true, and-false, or-true, or-false}
 use Prim.Native.Nat.{ℕ, zero, suc, _-_, _*_, _/_, _%_, _^_, _<_}
 use native.Mathlib.Nat.{mod-lt, mod-eq-of-lt, lt-of-le-of-lt}
 use native.Mathlib.Omega.{arith}
 use lib.Dec.{eqb}
 use lib.Pow.{pow-pos, pow-lt, ones-sub-lt}
-use lib.Bits.{bitAnd, bitOr, and-shr, and-mod, or-shr, or-mod, or-lt, and-le-l, and-le-r}
+use lib.Bits.{bitAnd, bitOr, bitXor, and-shr, and-mod, or-shr, or-mod, xor-shr, xor-mod, or-lt, and-le-l, and-le-r}
 use Rattle.words.specs.Bit.{bit, field, masked, less, merged, united, withBit}
 use Rattle.words.proofs.Laws.{word-ext, word-not, bit-word, bit-pow}
 use Rattle.words.proofs.Masks.{cond-or}
@@ -39,6 +39,9 @@ bit-and = bit-op bitAnd _&&_ and-shr and-mod (digits (λ x y. eqb (bitAnd x y) 1
 
 pub bit-or : (a b k : ℕ) → bit (bitOr a b) k ≡ (bit a k || bit b k)
 bit-or = bit-op bitOr _||_ or-shr or-mod (digits (λ x y. eqb (bitOr x y) 1 ≡ (eqb x 1 || eqb y 1)) refl refl refl refl)
+
+pub bit-xor : (a b k : ℕ) → bit (bitXor a b) k ≡ not (Bool·beq (bit a k) (bit b k))
+bit-xor = bit-op bitXor (λ p q. not (Bool·beq p q)) xor-shr xor-mod (digits (λ x y. eqb (bitXor x y) 1 ≡ not (Bool·beq (eqb x 1) (eqb y 1))) refl refl refl refl)
 
 pub bit-not : (n a k : ℕ) → a < 2 ^ n → k < n → bit ((2 ^ n - 1) - a) k ≡ not (bit a k)
 bit-not n a k l h =
