@@ -10,7 +10,7 @@ use lib.Dec.{ltb}
 use lib.ListN.{length, take, drop, set, length-append, length-set, take-append-drop}
 use lib.Seq.{take-set-le, drop-set-lt, drop-cons, getD-set-same, append-snoc}
 use Rattle.print.specs.Parts.{Wrote}
-use Rattle.print.specs.Print.{character, digitsOf, widthIn, widthOf, decimalText, answerLine, spanLine, labelLine}
+use Rattle.print.specs.Print.{character, digitsOf, widthIn, widthOf, decimalText, answerLine, spanLine, diffLine, labelLine}
 use Rattle.print.proofs.Writing.{join, one}
 
 pub digits-length : (base k n : ℕ) → length (digitsOf base k n) ≡ k
@@ -144,6 +144,12 @@ pub span-length : (start end rights : ℕ) → length (spanLine start end rights
 unfolding spanLine
 span-length start end rights =
     simp (length-append, digits-length 16 8 start, digits-length 16 8 end, digits-length 16 16 rights)
+
+pub diff-length : (start end old new count : ℕ) → length (diffLine start end old new count) ≡ widthOf count + 58
+unfolding diffLine decimalText
+diff-length start end old new count =
+    simp (length-append, digits-length 16 8 start, digits-length 16 8 end, digits-length 16 16 old, digits-length 16 16 new, digits-length 10 (widthOf count) count)
+    (omega arith)
 
 pub label-length : (label : List ℕ) (n : ℕ) → length (labelLine label n) ≡ length label + widthOf n + 1
 unfolding labelLine decimalText

@@ -46,6 +46,15 @@ unfoldable pub spanLine : ℕ → ℕ → ℕ → List ℕ
 spanLine start end rights =
     bytes "span\t" ++ (hexText 8 start ++ bytes "\t") ++ (hexText 8 end ++ bytes "\t") ++ (hexText 16 rights ++ bytes "\n")
 
+-- two numbers of k hexadecimal digits, a tab behind each
+abbrev pub hexPair : ℕ → ℕ → ℕ → List ℕ
+hexPair k x y = (hexText k x ++ bytes "\t") ++ (hexText k y ++ bytes "\t")
+
+-- `diff`, start, end, old, new, count: document 02, Q-1, "start, end, old, new as in `span`, decimal count, parted by tabs"
+unfoldable pub diffLine : ℕ → ℕ → ℕ → ℕ → ℕ → List ℕ
+diffLine start end old new count =
+    bytes "diff\t" ++ hexPair 8 start end ++ hexPair 16 old new ++ (decimalText count ++ bytes "\n")
+
 -- a label and a number
 unfoldable pub labelLine : List ℕ → ℕ → List ℕ
 labelLine label n = label ++ (decimalText n ++ bytes "\n")

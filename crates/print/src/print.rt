@@ -8,9 +8,11 @@ ghost use Rattle.print.specs.Print.{
   badLine,
   character,
   decimalText,
+  diffLine,
   digitsOf,
   endLine,
   guardLine,
+  hexPair,
   labelLine,
   spanLine,
   widthOf,
@@ -57,6 +59,15 @@ fn put_digits(out: &mut [u8], at: usize, base: u64, n: u64, count: usize, end: u
     }
     out[at + count] = end;
     at + count + 1
+}
+
+// Writes the last `count` hexadecimal digits of x and those of y, with a tab behind each, from `at` on. The place after them.
+fn put_pair(out: &mut [u8], at: usize, x: u64, y: u64, count: usize) -> usize
+    requires { ⌜ at + (count + 1) + (count + 1) ≤ length (now out) ⌝ }
+    ensures { λ r. ⌜ Wrote (now (out .entry)) at (hexPair count x y) (now (out .exit)) r ⌝ }
+{
+    let a = put_digits(out, at, 16, x, count, b'\t');
+    put_digits(out, a, 16, y, count, b'\t')
 }
 
 // How many decimal digits n has.
@@ -123,6 +134,32 @@ pub fn print_span(out: &mut [u8], at: usize, start: u64, end: u64, rights: u64) 
     let b = put_digits(out, a, 16, start, 8, b'\t');
     let c = put_digits(out, b, 16, end, 8, b'\t');
     put_digits(out, c, 16, rights, 16, b'\n')
+}
+
+// `diff`, start, end, old, new, the count of bits that differ. Of start and end the low 32 bits are printed.
+pub fn print_diff(
+    out: &mut [u8],
+    at: usize,
+    start: u64,
+    end: u64,
+    old: u64,
+    new: u64,
+    count: u64,
+) -> usize
+    ensures next { λ r. ⌜ r ≡ placeWith (now (out .entry)) at (diffLine start end old new count) ⌝ }
+    ensures bytes { λ _. ⌜ now (out .exit) ≡ bytesWith (now (out .entry)) at (diffLine start end old new count) ⌝ }
+{
+    let digits = width(count);
+    if out.len() < at {
+        return at;
+    }
+    if out.len() - at < digits + 58 {
+        return at;
+    }
+    let a = put(out, at, b"diff\t");
+    let b = put_pair(out, a, start, end, 8);
+    let c = put_pair(out, b, old, new, 16);
+    put_digits(out, c, 10, count, digits, b'\n')
 }
 
 // `guard`, n.
