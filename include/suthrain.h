@@ -22,11 +22,13 @@
  *   1  rights fail: flags and fault registers are set
  *   2  the register is locked
  *   3  the offset is no register, a write to a read-only one, a read of a write-only one
- *   4  no such block, guard, master, peripheral or operation; CID over 7; width not 1, 2, 4
+ *   4  no such block, guard, master, peripheral or operation; CID over 7; width not 1, 2, 4; rif_diff: a map whose starts and ends
+ *      are not those of a map of the guard
  *   5  the offset is not a multiple of the width (registers: of 4)
  *   6  the offset is at or past the window's size
  *   7  a fetch at a peripheral
- *   8  memory of the wrong length: nothing is read or written beyond the length given
+ *   8  memory of the wrong length: nothing is read or written beyond the length given; rif_diff: a map whose count of numbers is
+ *      over RIF_MAP_NUMBERS or no multiple of 3
  * Where several hold, the one found first in the order 8, 4, 5, 6, 7, unknown offset (3), 1, wrong direction (3), 2 is given. A
  * refusal but 1 changes nothing.
  *
@@ -46,6 +48,7 @@ extern "C" {
 
 #define RIF_STATE_WORDS 1813 /* the exact count of words of a state */
 #define RIF_MAP_NUMBERS 201  /* the least count of numbers lent for a map: 67 rows of three */
+#define RIF_DIFF_NUMBERS 665 /* the least count of numbers lent for what differs: 133 rows of five */
 
 /* The number and the value of an answer. */
 #define RIF_NUMBER(answer) ((uint32_t)((answer) >> 32))
@@ -89,6 +92,14 @@ uint64_t rif_map(const uint32_t *state, size_t words, uint32_t guard, uint64_t *
  * as they were. Any numbers will do; one or two left over at the end are no row.
  */
 uint64_t rif_lookup(const uint64_t *numbers, size_t count, uint64_t offset, uint64_t *start, uint64_t *end, uint64_t *rights);
+
+/*
+ * What differs between two maps of a guard, as rif_map makes them, into lent numbers: rows of start, end, old rights, new rights, and
+ * the count of bits in which the two differ, in rising order. An offset is in a row exactly where its rights differ. *used is how many
+ * numbers of the front are rows, 0 on refusal; the rest stays as it was. The rights of a map may be any words.
+ */
+uint64_t rif_diff(uint32_t guard, const uint64_t *before, size_t before_count, const uint64_t *after, size_t after_count,
+                  uint64_t *numbers, size_t count, uint64_t *used);
 
 /* One memory access of a batch. */
 typedef struct {

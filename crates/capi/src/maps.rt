@@ -3,6 +3,7 @@ use risaf::GuardNumber;
 ghost use mathlib.Core.Path.{_≡_};
 ghost use lib.ListN.{getD, length};
 ghost use Rattle.access.specs.Answer.{encodedOf};
+ghost use Rattle.diff.specs.Fill.{diffAnswer, diffNumbers, diffUsed};
 ghost use Rattle.map.specs.Fill.{fillAnswer, fillNumbers, fillUsed};
 ghost use Rattle.spans.specs.Lookup.{lookupIn};
 
@@ -39,4 +40,23 @@ pub extern "C" fn rif_lookup(
         *rights = row[2];
     }
     row.len() as u64
+}
+
+// What differs between two maps of a guard.
+#[no_mangle]
+pub extern "C" fn rif_diff(
+    guard: u32,
+    before: &[u64],
+    after: &[u64],
+    numbers: &mut [u64],
+    used: &mut u64,
+) -> u64
+    ensures answer { λ r. ⌜ r ≡ encodedOf (diffAnswer guard (now (before .entry)) (now (after .entry)) (now (numbers .entry))) ⌝ }
+    ensures rows { λ _. ⌜ now (numbers .exit) ≡ diffNumbers guard (now (before .entry)) (now (after .entry)) (now (numbers .entry)) ⌝ }
+    ensures count { λ _. ⌜ now (used .exit) ≡ diffUsed guard (now (before .entry)) (now (after .entry)) (now (numbers .entry)) ⌝ }
+{
+    let result = diff::fill::fill(GuardNumber(guard), before, after, numbers);
+    *used = result.used as u64;
+    let answer = result.answer;
+    answer.encoded()
 }
