@@ -1,4 +1,4 @@
--- One more span in memory that holds rows is a join: `putIn` and `putCount` are what `withSpan` says.
+-- One more span in memory that holds rows is a join: `numbersWith` and `countWith` are what `withSpan` says.
 use Prim.Native.Nat.{ℕ, suc, _+_, _-_, _*_, _≤_, _<_}
 use mathlib.Core.Path.{_≡_, refl, sym, ap, _∙_}
 use mathlib.Core.Bool.{Bool, true, false, _&&_}
@@ -14,9 +14,9 @@ use borrow.Author.Tests.{lt-ltb, le-ltb, eq-eqb, ne-eqb, ltb-true}
 use Rattle.spans.proofs.Order.{equal-or}
 use Rattle.diff.specs.Bits.{differing}
 use Rattle.diff.specs.Diff.{goesOn, behind, withSpan}
-use Rattle.diff.specs.Put.{continues, putCount, putIn}
+use Rattle.diff.specs.Put.{continues, countWith, numbersWith}
 use Rattle.diff.specs.Rows.{DiffRows, none, more, diffRowNumbers, flatDiff, sizeDiff, filledDiff}
-use Rattle.diff.proofs.Joined.{join-equal, join-apart, behind-on, behind-new}
+use Rattle.diff.proofs.Joined.{join-equal, join-apart}
 use Rattle.diff.proofs.Memory.{length-flat, flat-more, filled-front, filled-rest}
 use Rattle.diff.proofs.Tests.{both, true-or-false}
 
@@ -59,19 +59,19 @@ module _ (l : List ℕ) (n s a b : ℕ) where
 -- ---- the three ways of one more span
 
 module _ (l : List ℕ) (n s e a b : ℕ) where
-  pub put-none : a ≡ b → (n ≡ putCount l n s a b) × (l ≡ putIn l n s e a b)
-  unfolding putCount putIn
+  pub put-none : a ≡ b → (n ≡ countWith l n s a b) × (l ≡ numbersWith l n s e a b)
+  unfolding countWith numbersWith
   put-none h = simp (eq-eqb a b h) (refl, refl)
 
-  pub put-grows : a ≢ b → continues l n s a b ≡ true → (n ≡ putCount l n s a b) × (set l (diffRowNumbers * n - 4) e ≡ putIn l n s e a b)
-  unfolding putCount putIn
+  pub put-grows : a ≢ b → continues l n s a b ≡ true → (n ≡ countWith l n s a b) × (set l (diffRowNumbers * n - 4) e ≡ numbersWith l n s e a b)
+  unfolding countWith numbersWith
   put-grows h k = simp (ne-eqb a b h, k) (refl, refl)
 
   pub put-adds : a ≢ b → continues l n s a b ≡ false
-      → (n + 1 ≡ putCount l n s a b)
+      → (n + 1 ≡ countWith l n s a b)
       × (set (set (set (set (set l (diffRowNumbers * n) s) (diffRowNumbers * n + 1) e) (diffRowNumbers * n + 2) a) (diffRowNumbers * n + 3) b) (diffRowNumbers * n + 4) (differing a b)
-      ≡ putIn l n s e a b)
-  unfolding putCount putIn
+      ≡ numbersWith l n s e a b)
+  unfolding countWith numbersWith
   put-adds h k = simp (ne-eqb a b h, k) (refl, refl)
 
 -- ---- a number behind rows
@@ -125,7 +125,7 @@ added rs l s e a b h =
 
 -- l₀ with the rows rs over its front, where there is room for a row more: one more span leaves l₀ with their join over its front
 pub put-joins : (rs : DiffRows) (l₀ l : List ℕ) (n s e a b : ℕ) → n ≡ sizeDiff rs → l ≡ filledDiff rs l₀ → diffRowNumbers * n + diffRowNumbers ≤ length l
-    → (putCount l n s a b ≡ sizeDiff (withSpan rs s e a b)) × (putIn l n s e a b ≡ filledDiff (withSpan rs s e a b) l₀)
+    → (countWith l n s a b ≡ sizeDiff (withSpan rs s e a b)) × (numbersWith l n s e a b ≡ filledDiff (withSpan rs s e a b) l₀)
 unfolding behind sizeDiff
 put-joins rs l₀ l n s e a b k h g =
     ⊎-elim
@@ -134,13 +134,13 @@ put-joins rs l₀ l n s e a b k h g =
     (equal-or a b)
   where
     new : (rs : DiffRows) → a ≢ b → n ≡ sizeDiff rs → l ≡ filledDiff rs l₀ → continues l n s a b ≡ false
-        → (putCount l n s a b ≡ suc (sizeDiff rs)) × (putIn l n s e a b ≡ filledDiff (more rs s e a b) l₀)
+        → (countWith l n s a b ≡ suc (sizeDiff rs)) × (numbersWith l n s e a b ≡ filledDiff (more rs s e a b) l₀)
     new rs q k h c =
         let p = put-adds l n s e a b q c in
         (sym (p .0) ∙ omega arith, sym (p .1) ∙ rw (h, k) (added rs l₀ s e a b (rw (h, k) at g)))
 
     apart : (rs : DiffRows) → a ≢ b → n ≡ sizeDiff rs → l ≡ filledDiff rs l₀
-        → (putCount l n s a b ≡ sizeDiff (behind rs s e a b)) × (putIn l n s e a b ≡ filledDiff (behind rs s e a b) l₀)
+        → (countWith l n s a b ≡ sizeDiff (behind rs s e a b)) × (numbersWith l n s e a b ≡ filledDiff (behind rs s e a b) l₀)
     apart none q k h = new none q k h (sym (continues-first l n s a b k))
     apart (more r s₀ e₀ a₀ b₀) q k h =
         let c : continues l n s a b ≡ goesOn e₀ a₀ b₀ s a b = rw (h, k) (last-continues r s₀ e₀ a₀ b₀ l₀ s a b) in

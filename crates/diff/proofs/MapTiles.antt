@@ -1,16 +1,16 @@
 -- The code's rule for starts and ends is that of the record `Tiles`: 01's rule for a map as made.
 use Prim.Native.Nat.{ℕ, zero, suc, _+_, _-_, _*_, _/_, _%_, _≤_, _<_}
-use mathlib.Core.Path.{_≡_, refl, sym, ap, _∙_}
+use mathlib.Core.Path.{_≡_, refl, sym}
 use mathlib.Core.Bool.{true, false≢true}
 use mathlib.Core.List.{List, [], _∷_}
 use mathlib.Core.Logic.{_↔_, ⊎-elim}
 use native.Mathlib.Omega.{arith}
-use lib.ListN.{length, getD, drop, drop-of-length-le}
+use lib.ListN.{length, drop, drop-of-length-le}
 use borrow.Author.Tests.{eq-eqb, le-leb, eqb-true}
 use Rattle.spans.specs.Map.{Tiles}
 use Rattle.spans.specs.Rows.{start, end}
 use Rattle.spans.proofs.Memory.{three}
-use Rattle.spans.proofs.Order.{below-or, below-or-at}
+use Rattle.spans.proofs.Order.{below-or-at}
 use Rattle.diff.specs.Lent.{tilesFrom, tiles}
 use Rattle.diff.proofs.Tiled.{row-tiles, tiles-row}
 

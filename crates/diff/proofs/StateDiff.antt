@@ -1,11 +1,11 @@
 -- What differs between the maps of two states, over the rules by which `step` answers.
-use mathlib.Core.Bool.{Bool, true, _&&_}
-use mathlib.Core.List.{List, _∷_, []}
+use mathlib.Core.Bool.{true}
+use mathlib.Core.List.{List}
 use mathlib.Core.Logic.{_↔_, _≢_, ⊎-elim}
 use mathlib.Core.Path.{_≡_, refl, sym, ap, _∙_}
-use Prim.Native.Nat.{ℕ, zero, suc, _+_, _*_, _/_, _%_, _≤_, _<_}
+use Prim.Native.Nat.{ℕ, zero, suc, _/_, _%_, _≤_, _<_}
 use native.Mathlib.Omega.{arith}
-use lib.ListN.{length, getD}
+use lib.ListN.{length}
 use borrow.Author.Tests.{eq-eqb, le-leb}
 use Rattle.words.specs.Bit.{bit}
 use Rattle.access.specs.Kind.{rightsBit}
@@ -28,7 +28,7 @@ use Rattle.diff.specs.Demand.{sheet, Shows, IsGuardDiff}
 use Rattle.diff.specs.Diff.{IsDiff, diffOf}
 use Rattle.diff.specs.Fill as diff
 use Rattle.diff.specs.Lent.{tiles, mapRights}
-use Rattle.diff.specs.Rows.{diffRowNumbers, sizeDiff, old, new, Enclosed}
+use Rattle.diff.specs.Rows.{diffRowNumbers, sizeDiff}
 use Rattle.diff.proofs.Joined.{diff-cong}
 use Rattle.diff.proofs.MapTiles.{tiles-are}
 use Rattle.diff.proofs.Results.{diff-in-memory}

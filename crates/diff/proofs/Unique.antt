@@ -1,14 +1,14 @@
 -- A result said of rows, one row at a time from the last: what differs is one, and it is the only one. Proofs use this form; `IsDiff` says the same
 -- of numbers in memory (Results.antt).
-use Prim.Native.Nat.{ℕ, zero, suc, _+_, _-_, _≤_, _<_}
+use Prim.Native.Nat.{ℕ, zero, suc, _-_, _≤_, _<_}
 use mathlib.Core.Path.{_≡_, refl, sym, ap, _∙_, subst}
 use mathlib.Core.Bool.{true, false, true≢false}
 use mathlib.Core.Logic.{⊎-elim, _≢_}
 use native.Mathlib.Omega.{arith}
 use Rattle.spans.proofs.Order.{below-or, below-or-at, equal-or}
-use Rattle.diff.specs.Diff.{goesOn, behind, withSpan, diffOf}
+use Rattle.diff.specs.Diff.{goesOn, behind, diffOf}
 use Rattle.diff.specs.Rows.{DiffRows, none, more}
-use Rattle.diff.proofs.Joined.{join-equal, join-apart, behind-on, behind-new}
+use Rattle.diff.proofs.Joined.{join-equal, join-apart}
 use Rattle.diff.proofs.Tests.{goes, gone, true-or-false}
 
 -- a span from s of the words a and b does not go on the last row, if there is one

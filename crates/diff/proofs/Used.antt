@@ -1,7 +1,7 @@
 -- What a result is, of the numbers that `fill` leaves and of the part that is handed back, for lent maps of any contents.
-use mathlib.Core.Bool.{Bool, true, false, _&&_}
+use mathlib.Core.Bool.{true, false}
 use mathlib.Core.List.{List, []}
-use mathlib.Core.Path.{_≡_, refl, ap, _∙_}
+use mathlib.Core.Path.{_≡_, refl}
 use Prim.Native.Nat.{ℕ, _*_, _/_, _≤_}
 use native.Mathlib.Omega.{arith}
 use lib.ListN.{length, drop}
@@ -10,7 +10,7 @@ use Rattle.access.specs.declared.answer.Answer.the-variants.{Done}
 use Rattle.map.specs.Part.{usedPart}
 use Rattle.risaf.specs.Guards.{shapeOf}
 use Rattle.diff.specs.Diff.{IsDiff}
-use Rattle.diff.specs.Fill.{mostDiffRows, leastDiffRoom, lengthsFit, mapped, taken, rowsBetween, diffAnswer, diffUsed, diffNumbers}
+use Rattle.diff.specs.Fill.{mostDiffRows, lengthsFit, mapped, taken, rowsBetween, diffAnswer, diffUsed, diffNumbers}
 use Rattle.diff.specs.Lent.{mapRights}
 use Rattle.diff.specs.Rows.{diffRowNumbers, flatDiff, sizeDiff, filledDiff}
 use Rattle.diff.proofs.Made.{lengths, maps}

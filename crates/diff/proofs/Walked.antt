@@ -14,8 +14,8 @@ use Rattle.spans.proofs.Order.{below-or}
 use Rattle.diff.specs.Diff.{withSpan, diffOf}
 use Rattle.diff.specs.Fill.{mostDiffRows, leastDiffRoom}
 use Rattle.diff.specs.Lent.{tilesFrom, mapRights}
-use Rattle.diff.specs.Put.{putCount, putIn, pastRow}
-use Rattle.diff.specs.Rows.{DiffRows, diffRowNumbers, flatDiff, sizeDiff, filledDiff}
+use Rattle.diff.specs.Put.{countWith, numbersWith, pastRow}
+use Rattle.diff.specs.Rows.{diffRowNumbers, flatDiff, sizeDiff, filledDiff}
 use Rattle.diff.proofs.Added.{put-joins}
 use Rattle.diff.proofs.Joined.{run, size-join}
 use Rattle.diff.proofs.Memory.{filled-length}
@@ -86,8 +86,8 @@ module _ {b a : List ℕ} {w : ℕ} {l₀ : List ℕ} {at i j count : ℕ} {l : 
       turn-room = omega (arith, W .few, W .long, row-held (W .old) h, row-held (W .new) h)
 
       pub walked-turn : {count′ : ℕ} {l′ : List ℕ}
-          → count′ ≡ putCount l count at (getD b (i + 2) 0) (getD a (j + 2) 0)
-          → l′ ≡ putIn l count at (to - 1) (getD b (i + 2) 0) (getD a (j + 2) 0)
+          → count′ ≡ countWith l count at (getD b (i + 2) 0) (getD a (j + 2) 0)
+          → l′ ≡ numbersWith l count at (to - 1) (getD b (i + 2) 0) (getD a (j + 2) 0)
           → Walked b a w l₀ to (pastRow b i to) (pastRow a j to) count′ l′
       walked-turn {count′} {l′} ec el =
           let t = turn-to in

@@ -1,5 +1,5 @@
 -- Lent numbers that are a map of the window w, and the rights in them.
-use mathlib.Core.Bool.{Bool, true, false, _&&_}
+use mathlib.Core.Bool.{Bool, false, _&&_}
 use mathlib.Core.List.{List, [], _∷_}
 use Prim.Native.Nat.{ℕ, _+_}
 use lib.Dec.{leb, eqb}
@@ -14,7 +14,7 @@ tilesFrom at w (s ∷ []) = false
 tilesFrom at w (s ∷ e ∷ []) = false
 tilesFrom at w (s ∷ e ∷ q ∷ rest) = eqb s at && leb s e && tilesFrom (e + 1) w rest
 
--- "01's rule for a map as made", of starts and ends: `tiles-are` of proofs/Tiled.antt says it by the record `Tiles` of spans
+-- "01's rule for a map as made", of starts and ends: `tiles-are` of proofs/MapTiles.antt says it by the record `Tiles` of spans
 abbrev pub tiles : ℕ → List ℕ → Bool
 tiles w m = tilesFrom 0 w m
 

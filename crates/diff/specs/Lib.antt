@@ -7,7 +7,7 @@
 --     Fill      the result in lent numbers, and the refusals
 --     Demand    a result over the rules by which `step` answers
 -- What only code and proofs go by:
---     Put       what one more span changes in memory
+--     Put       what one more span changes in memory, and the next row of a map
 pub mod Bits
 pub mod Demand
 pub mod Diff

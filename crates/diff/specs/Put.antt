@@ -17,12 +17,12 @@ continues l n s a b =
     ltb 0 n && goesOn (getD l (i - 4) 0) (getD l (i - 3) 0) (getD l (i - 2) 0) s a b
 
 -- how many rows are in use after one more span
-unfoldable pub putCount : List ℕ → ℕ → ℕ → ℕ → ℕ → ℕ
-putCount l n s a b = cond (eqb a b) n (cond (continues l n s a b) n (n + 1))
+unfoldable pub countWith : List ℕ → ℕ → ℕ → ℕ → ℕ → ℕ
+countWith l n s a b = cond (eqb a b) n (cond (continues l n s a b) n (n + 1))
 
 -- the numbers after it
-unfoldable pub putIn : List ℕ → ℕ → ℕ → ℕ → ℕ → ℕ → List ℕ
-putIn l n s e a b =
+unfoldable pub numbersWith : List ℕ → ℕ → ℕ → ℕ → ℕ → ℕ → List ℕ
+numbersWith l n s e a b =
     let i = diffRowNumbers * n in
     cond (eqb a b) l
     (cond (continues l n s a b)

@@ -3,7 +3,7 @@ ghost use mathlib.Core.Path.{_≡_};
 ghost use Prim.Native.Nat.{_+_, _*_, _≤_};
 ghost use lib.ListN.{length};
 ghost use Rattle.diff.specs.Bits.{differing};
-ghost use Rattle.diff.specs.Put.{continues, putCount, putIn};
+ghost use Rattle.diff.specs.Put.{continues, countWith, numbersWith};
 ghost use Rattle.diff.specs.Rows.{diffRowNumbers};
 
 // In how many bits two rights words differ.
@@ -33,8 +33,8 @@ fn continues(lent: &[u64], count: usize, start: u64, old: u64, new: u64) -> bool
 // row; where it goes on the last row that row ends with it; else it is a row of its own.
 pub(crate) fn put(lent: &mut [u64], count: usize, start: u64, end: u64, old: u64, new: u64) -> usize
     requires { ⌜ diffRowNumbers * count + diffRowNumbers ≤ length (now lent) ⌝ }
-    ensures { λ r. ⌜ r ≡ putCount (now (lent .entry)) count start old new ⌝ }
-    ensures { λ r. ⌜ now (lent .exit) ≡ putIn (now (lent .entry)) count start end old new ⌝ }
+    ensures { λ r. ⌜ r ≡ countWith (now (lent .entry)) count start old new ⌝ }
+    ensures { λ r. ⌜ now (lent .exit) ≡ numbersWith (now (lent .entry)) count start end old new ⌝ }
 {
     if old == new {
         return count;

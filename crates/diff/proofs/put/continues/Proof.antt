@@ -1,5 +1,4 @@
 -- `diff::put::continues` meets its contract.
-use native.Mathlib.Omega.{arith}
 use denote.Ref.{now}
 use borrow.Author.Needs.{needs}
 use Rattle.diff.proofs.Added.{continues-first, continues-later, continues-at}

@@ -2,7 +2,7 @@
 use borrow.Author.Needs.{needs}
 use native.Mathlib.Omega.{arith}
 use lib.Bits.{bitXor, xor-lt}
-use lib.Count.{ones, ones-le}
+use lib.Count.{ones-le}
 use Rattle.diff.specs.Bits.{rightsBits}
 use Rattle.diff.proofs.Ones.{ones-differ}
 use Rattle.diff.proofs.put.differing.Statement.{statement}
