@@ -53,6 +53,8 @@ extern "C" {
                used: *mut u64) -> u64;
     fn rif_lookup(numbers: *const u64, count: usize, offset: u64, start: *mut u64,
                   end: *mut u64, rights: *mut u64) -> u64;
+    fn rif_diff(guard: u32, before: *const u64, before_count: usize, after: *const u64,
+                after_count: usize, numbers: *mut u64, count: usize, used: *mut u64) -> u64;
     fn rif_batch(state: *mut u32, words: usize, accesses: *const Access, count: usize,
                  answers: *mut u64, places: usize) -> u64;
 }
@@ -135,6 +137,21 @@ pub fn lookup(numbers: &[u64], offset: u64, row: &mut [u64; 3]) -> u64 {
     let (first, count) = (numbers.as_ptr(), numbers.len());
     let [start, end, rights] = row;
     unsafe { rif_lookup(first, count, offset, start, end, rights) }
+}
+
+pub fn diff(guard: u32, before: &[u64], after: &[u64], room: &mut [u64], used: &mut u64) -> u64 {
+    unsafe {
+        rif_diff(
+            guard,
+            before.as_ptr(),
+            before.len(),
+            after.as_ptr(),
+            after.len(),
+            room.as_mut_ptr(),
+            room.len(),
+            used,
+        )
+    }
 }
 
 pub fn batch(state: &mut [u32], accesses: &[Access], answers: &mut [u64]) -> u64 {

@@ -125,6 +125,7 @@ fn cases_become_small() {
         ("map-short", 1, 0),
         ("line-absent", 1, 2),
         ("guard-unlocked", 1, 1),
+        ("diff-unjoined", 1, 0),
     ];
     for (name, calls, words) in most {
         let case = smallest_case(name);

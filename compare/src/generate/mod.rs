@@ -2,6 +2,7 @@
 
 pub mod aim;
 pub mod damage;
+pub mod diffs;
 pub mod lent;
 pub mod lines;
 pub mod registers;

@@ -31,13 +31,21 @@ pub enum Call {
         accesses: Vec<MemoryAccess>,
         lent: Vec<u64>,
     },
+    /// What differs between two maps, into lent numbers, given with what they
+    /// hold before. It has no state.
+    Diff {
+        guard: u32,
+        before: Vec<u64>,
+        after: Vec<u64>,
+        lent: Vec<u64>,
+    },
 }
 
 #[derive(Clone, Debug, Default, PartialEq)]
 pub struct Outcome {
     /// What the function returned.
     pub answer: u64,
-    /// How many lent numbers are the map.
+    /// How many lent numbers are the map, or the rows of what differs.
     pub used: u64,
     /// The lent numbers afterwards.
     pub lent: Vec<u64>,

@@ -2,7 +2,7 @@
 
 use super::call::{Call, Outcome};
 use super::machine::Machine;
-use super::shrink::{blank, delete, zero_bits};
+use super::shrink::{blank, delete, fewer_rows, zero_bits};
 
 #[derive(Clone, Default)]
 pub struct Case {
@@ -96,6 +96,26 @@ fn smaller_lists(call: &Call, mut shows: impl FnMut(Call) -> bool) -> Call {
             };
             let numbers = delete(numbers, |numbers| shows(with(numbers)));
             Call::Lookup { numbers, offset }
+        }
+        Call::Diff {
+            guard,
+            before,
+            after,
+            lent,
+        } => {
+            let with = |before: &[_], after: &[_], lent: &[_]| Call::Diff {
+                guard,
+                before: before.to_vec(),
+                after: after.to_vec(),
+                lent: lent.to_vec(),
+            };
+            let before = fewer_rows(before, |before| shows(with(before, &after, &lent)));
+            let after = fewer_rows(after, |after| shows(with(&before, after, &lent)));
+            let before = blank(before, 0, |before| shows(with(before, &after, &lent)));
+            let after = blank(after, 0, |after| shows(with(&before, after, &lent)));
+            let lent = delete(lent, |lent| shows(with(&before, &after, lent)));
+            let lent = blank(lent, 0, |lent| shows(with(&before, &after, lent)));
+            with(&before, &after, &lent)
         }
         other => other,
     }

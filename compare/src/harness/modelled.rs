@@ -3,7 +3,11 @@
 use super::call::{packed, Call, Outcome};
 use super::machine::Machine;
 use super::words::{device_of, store, STATE_WORDS};
+use crate::model::diff::diff;
 use crate::model::{lookup, Answer, Device, Event, MemoryAccess, Span};
+
+/// What differs between two maps: guard, before, after, room.
+pub type Differ = fn(u32, &[u64], &[u64], &mut [u64]) -> (Answer, usize);
 
 /// The model's rules; a mutant has one of them changed.
 #[derive(Clone, Copy)]
@@ -14,6 +18,7 @@ pub struct Rules {
     pub lookup: fn(&[u64], u64) -> &[u64],
     /// The least count of numbers lent for a map.
     pub map_numbers: usize,
+    pub diff: Differ,
 }
 
 pub const MODEL: Rules = Rules {
@@ -22,6 +27,7 @@ pub const MODEL: Rules = Rules {
     map: Device::map,
     lookup,
     map_numbers: 201,
+    diff,
 };
 
 pub struct Modelled {
@@ -95,6 +101,16 @@ impl Modelled {
         }
     }
 
+    fn diff(&self, guard: u32, before: &[u64], after: &[u64], lent: &[u64]) -> Outcome {
+        let mut lent = lent.to_vec();
+        let (answer, used) = (self.rules.diff)(guard, before, after, &mut lent);
+        Outcome {
+            used: used as u64,
+            lent,
+            ..Outcome::of(packed(answer))
+        }
+    }
+
     fn batch(&mut self, accesses: &[MemoryAccess], lent: &[u64]) -> Outcome {
         let mut lent = lent.to_vec();
         let refused = self.device.is_none() || lent.len() < accesses.len();
@@ -128,6 +144,12 @@ impl Machine for Modelled {
             Call::Map { guard, lent } => self.map(*guard, lent),
             Call::Lookup { numbers, offset } => self.lookup(numbers, *offset),
             Call::Batch { accesses, lent } => self.batch(accesses, lent),
+            Call::Diff {
+                guard,
+                before,
+                after,
+                lent,
+            } => self.diff(*guard, before, after, lent),
         }
     }
 

@@ -42,6 +42,17 @@ fn put_call(text: &mut String, call: &Call) {
             writeln!(text, "call lookup of {offset:x}").unwrap();
             put_numbers(text, "in", numbers);
         }
+        Call::Diff {
+            guard,
+            before,
+            after,
+            lent,
+        } => {
+            writeln!(text, "call diff of guard {guard}").unwrap();
+            put_numbers(text, "before", before);
+            put_numbers(text, "after", after);
+            put_numbers(text, "lent", lent);
+        }
         _ => writeln!(text, "call {call:x?}").unwrap(),
     }
 }

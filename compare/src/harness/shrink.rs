@@ -72,3 +72,19 @@ pub fn zero_bits(mut words: Vec<u32>, mut shows: impl FnMut(&[u32]) -> bool) -> 
     }
     words
 }
+
+/// Joins rows of a map to the ones before them while it still shows it.
+pub fn fewer_rows(mut map: Vec<u64>, mut shows: impl FnMut(&[u64]) -> bool) -> Vec<u64> {
+    let mut at = 3;
+    while at + 3 <= map.len() {
+        let mut fewer = map.clone();
+        fewer[at - 2] = map[at + 1];
+        fewer.drain(at..at + 3);
+        if shows(&fewer) {
+            map = fewer;
+        } else {
+            at += 3;
+        }
+    }
+    map
+}

@@ -28,7 +28,7 @@ const fn kind(
 
 const RULES: &[&str] = &["by default", "by base", "by subregion"];
 
-const KINDS: [Kind; 17] = [
+const KINDS: [Kind; 18] = [
     kind("reset", &[0, 8], &[]),
     kind("rifsc read", &[0, 3, 5, 8], &[]),
     kind("rifsc write", &[0, 1, 2, 3, 5, 8], &[]),
@@ -45,6 +45,7 @@ const KINDS: [Kind; 17] = [
     kind("lookup", &[0], &["row", "no row"]),
     kind("batch", &[0, 8], &[]),
     kind("in a batch", &[0, 1, 4, 5, 6], RULES),
+    kind("diff", &[0, 4, 8], &[]),
     kind(SCRIPT_LINE, &[0, 1, 2, 3, 4, 5, 6, 7], &[]),
 ];
 const SCRIPT_LINE: &str = "script line";
@@ -76,6 +77,7 @@ fn kind_of(call: &Call) -> usize {
         Call::Map { .. } => 12,
         Call::Lookup { .. } => 13,
         Call::Batch { .. } => 14,
+        Call::Diff { .. } => 16,
     }
 }
 

@@ -1,6 +1,6 @@
 //! The proved library as a machine, with a fence around all it is lent.
 
-use super::{batch, line, lookup, map, master, memory, peripheral, register, reset, Access};
+use super::{batch, diff, line, lookup, map, master, memory, peripheral, register, reset, Access};
 use crate::harness::call::{Call, Outcome};
 use crate::harness::machine::Machine;
 use crate::model::{Block, Event, MemoryAccess, Purpose, RegisterAccess};
@@ -119,6 +119,20 @@ fn look(numbers: &[u64], offset: u64) -> Outcome {
     }
 }
 
+/// What differs between two maps, which stay as they are.
+fn differ(guard: u32, before: &[u64], after: &[u64], lent: &[u64]) -> Outcome {
+    let (old, new) = (Fenced::new(before), Fenced::new(after));
+    let (mut lent, mut used) = (Fenced::new(lent), u64::from(POST));
+    let answer = diff(guard, old.inside(), new.inside(), lent.lend(), &mut used);
+    let kept = old.inside() == before && new.inside() == after;
+    Outcome {
+        answer,
+        used,
+        stray: !kept || old.broken() || new.broken() || lent.broken(),
+        lent: lent.inside().to_vec(),
+    }
+}
+
 impl Machine for Linked {
     fn load(&mut self, words: &[u32]) {
         self.state = Fenced::new(words);
@@ -139,6 +153,12 @@ impl Machine for Linked {
             Call::Map { guard, lent } => self.map(*guard, lent),
             Call::Lookup { numbers, offset } => look(numbers, *offset),
             Call::Batch { accesses, lent } => self.batch(accesses, lent),
+            Call::Diff {
+                guard,
+                before,
+                after,
+                lent,
+            } => differ(*guard, before, after, lent),
         };
         outcome.stray |= self.state.broken();
         outcome

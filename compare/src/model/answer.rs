@@ -20,7 +20,8 @@ pub enum Answer {
     Locked,
     /// No register there, or none for this direction.
     NoRegister,
-    /// No such guard, master or peripheral; CID or width out of range.
+    /// No such guard, master or peripheral; CID or width out of range; numbers
+    /// that are no map of the guard.
     NoTarget,
     /// Offset not a multiple of the width.
     Misaligned,

@@ -3,6 +3,7 @@
 mod answer;
 mod bits;
 mod device;
+pub mod diff;
 mod event;
 mod guard;
 mod guard_register;
@@ -20,7 +21,7 @@ pub use event::{
 };
 pub use guard::Guard;
 pub use iac::{Iac, IISR};
-pub use map::{lookup, Span};
+pub use map::{lookup, spans, Span};
 pub use region::{Region, Subregion};
 pub use rifsc::{Rifsc, MASTERS, PPSR};
 pub use shape::{Shape, GUARDS, REGIONS_STORED, SHAPES};

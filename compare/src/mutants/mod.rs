@@ -4,6 +4,7 @@
 //! The model itself has no switch for this: a mutant changes an event, the
 //! state or the answer around the right rule.
 
+mod diffs;
 mod lent;
 mod lines;
 mod locks;
@@ -51,6 +52,7 @@ pub fn all() -> Vec<Mutant> {
         registers::MUTANTS,
         locks::MUTANTS,
         lent::MUTANTS,
+        diffs::MUTANTS,
         lines::MUTANTS,
     ];
     lists.concat()

@@ -1,11 +1,13 @@
 //! The parts of a comparison.
 
 pub mod accesses;
+pub mod diffs;
 pub mod example;
 pub mod lines;
 pub mod memory;
 pub mod mutants;
 pub mod options;
+pub mod releases;
 pub mod run;
 
 use crate::harness::case::Case;
@@ -31,7 +33,7 @@ const fn part(
     Part { name, share, run }
 }
 
-pub const PARTS: [Part; 8] = [
+pub const PARTS: [Part; 9] = [
     part("random", 300, accesses::random),
     part("dense", 250, accesses::dense),
     part("reached", 300, accesses::reached),
@@ -40,4 +42,5 @@ pub const PARTS: [Part; 8] = [
     part("lookups", 50, memory::lookups),
     part("batches", 140, memory::batches),
     part("lengths", 10, memory::lengths),
+    part("diffs", 10, diffs::diffs),
 ];

@@ -6,9 +6,10 @@ use std::path::PathBuf;
 pub const HELP: &str = "\
 Compares the proved library and program with the second program.
 
-    compare [options] --program PATH
+    compare [options] --program PATH --releases PATH
 
   --program PATH  the program that reads lines, run as a child process
+  --releases PATH the program that compares two scripts, run likewise
   --seed N        where the random numbers start (default 1)
   --events N      events on the C interface (default 40000000)
   --lines N       lines through the program (default 3000000)
@@ -25,6 +26,7 @@ run.
 
 pub struct Options {
     pub program: PathBuf,
+    pub releases: PathBuf,
     pub seed: u64,
     pub events: u64,
     pub lines: u64,
@@ -58,6 +60,7 @@ fn list() -> String {
 pub fn read(arguments: impl Iterator<Item = String>) -> Result<Wish, String> {
     let mut options = Options {
         program: PathBuf::new(),
+        releases: PathBuf::new(),
         seed: 1,
         events: 40_000_000,
         lines: 3_000_000,
@@ -74,6 +77,7 @@ pub fn read(arguments: impl Iterator<Item = String>) -> Result<Wish, String> {
         };
         match option.as_str() {
             "--program" => options.program = PathBuf::from(value),
+            "--releases" => options.releases = PathBuf::from(value),
             "--seed" => options.seed = number(&value)?,
             "--events" => options.events = number(&value)?,
             "--lines" => options.lines = number(&value)?,
@@ -83,8 +87,8 @@ pub fn read(arguments: impl Iterator<Item = String>) -> Result<Wish, String> {
             _ => return Err(format!("unknown option {option}")),
         }
     }
-    if options.program.as_os_str().is_empty() {
-        return Err("--program is missing".to_string());
+    if options.program.as_os_str().is_empty() || options.releases.as_os_str().is_empty() {
+        return Err("--program or --releases is missing".to_string());
     }
     Ok(Wish::Compare(options))
 }

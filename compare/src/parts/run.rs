@@ -4,6 +4,7 @@ use super::example::example;
 use super::lines::{bad, filter, good, Sides};
 use super::mutants::mutants;
 use super::options::Options;
+use super::releases::releases;
 use super::{Part, PARTS};
 use crate::harness::duel::Duel;
 use crate::harness::machine::Machine;
@@ -73,6 +74,11 @@ pub fn run(options: &Options, subject: &mut dyn Machine, library: &Path) -> bool
     }
     if options.mutant.is_none() {
         report.part("mutants", || mutants(seed, subject, Some(&program)));
+        let mut random = Random::named(seed, "releases");
+        let pairs = lines.div_ceil(10_000);
+        report.part("releases", || {
+            releases(&options.releases, &mut random, pairs)
+        });
         report.part("example", || example(&options.root, library));
         print!("{}", tally.table());
         report.part("answers", || {

@@ -1,5 +1,6 @@
-//! Prints answers, bad lines and map sheets.
+//! Prints answers, bad lines, map sheets and sheets of what differs.
 
+use crate::model::diff::DiffRow;
 use crate::model::{Answer, Span};
 
 /// The lowercase hex digits of a number, as many as `N`.
@@ -53,4 +54,25 @@ pub fn put_sheet(out: &mut Vec<u8>, guard: u32, spans: &[Span]) {
         out.extend_from_slice(&line);
     }
     put_counted(out, b"end", spans.len() as u64);
+}
+
+/// A line of what differs.
+pub fn put_diff(out: &mut Vec<u8>, row: &DiffRow) {
+    let mut line = *b"diff\t00000000\t00000000\t0000000000000000\t0000000000000000\t";
+    line[5..13].copy_from_slice(&hex::<8>(row.start));
+    line[14..22].copy_from_slice(&hex::<8>(row.end));
+    line[23..39].copy_from_slice(&hex::<16>(row.old));
+    line[40..56].copy_from_slice(&hex::<16>(row.new));
+    out.extend_from_slice(&line);
+    put_decimal(out, row.bits());
+    out.push(b'\n');
+}
+
+/// What differs in one guard, in the form of a map's sheet.
+pub fn put_diff_sheet(out: &mut Vec<u8>, guard: u32, rows: &[DiffRow]) {
+    put_counted(out, b"guard", u64::from(guard));
+    for row in rows {
+        put_diff(out, row);
+    }
+    put_counted(out, b"end", rows.len() as u64);
 }
