@@ -5,6 +5,7 @@ pub mod GuardLayout
 pub mod GuardSteps
 pub mod LockWrites
 pub mod Locks
+pub mod MasterAccesses
 pub mod NamedBits
 pub mod NamedDecide
 pub mod NamedPlaces

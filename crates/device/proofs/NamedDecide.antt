@@ -21,6 +21,7 @@ use Rattle.rifsc.specs.Masters.{isMaster}
 use Rattle.rifsc.specs.Peripherals.{exists}
 use Rattle.rifsc.specs.Registers.{ppsrs}
 use Rattle.rifsc.specs.declared.peripherals.PeripheralNumber.{PeripheralNumber}
+use Rattle.rifsc.proofs.NamedAccess.{filter-same, carried-same}
 use Rattle.rifsc.proofs.NamedBits as rifsc
 use Rattle.iac.specs.Contents as iac-contents
 use Rattle.iac.specs.Flags.{line}
@@ -107,7 +108,7 @@ module _ {s s′ : State} (same : Alike Same namedState s s′) where
   peripheral-same a = settled-same _ (go (exists (a .peripheral)) refl) same
     where
       go : (b : Bool) → exists (a .peripheral) ≡ b → answered (peripheralChecks a s) 0 ≡ answered (peripheralChecks a s′) 0
-      go true h = rw (rifsc.filter-same rifsc-has (same .rifsc) (a .peripheral) (named-peripheral (a .peripheral) h))
+      go true h = rw (filter-same rifsc-has (same .rifsc) (a .peripheral) (named-peripheral (a .peripheral) h))
       go false h = rw h
 
   -- and ATTR where the master is
@@ -117,7 +118,7 @@ module _ {s s′ : State} (same : Alike Same namedState s s′) where
     where
       go : (b : Bool) → isMaster (a .master) ≡ b → Both (step (Master a) s) (step (Master a) s′)
       go true h =
-          rw (rifsc.carried-same rifsc-has (same .rifsc) (a .master) (a .write) (ltb-true _ _ h))
+          rw (carried-same rifsc-has (same .rifsc) (a .master) (a .write) (ltb-true _ _ h))
           (memory-both (isMaster (a .master)) (a .guard .0) (a .offset) (a .width) _)
       go false h = rw (no-master a s h, no-master a s′ h) (refl, same)
 

@@ -4,12 +4,14 @@
 --     Run        meaning: events one after the other
 --     Locks      meaning: the locks there are, and the settings
 --     Refusals   meaning: what a refusal with 1 leaves
+--     Masters    meaning: a master's access as a memory access
 --     Applied    meaning: an event on lent memory
 --     Layout     meaning: the state's memory, part by part
 --     Named      meaning: which bits of the state's memory are named
 pub mod Applied
 pub mod Layout
 pub mod Locks
+pub mod Masters
 pub mod Named
 pub mod Refusals
 pub mod Run

@@ -96,12 +96,15 @@ pub(crate) fn load_filter(state: &[u32], p: PeripheralNumber) -> Filter
     }
 }
 
-// What is held of a master.
+// What is held of a master. Master 0 has no guarding peripheral.
 pub(crate) fn load_attributes(state: &[u32], m: MasterNumber) -> Attributes
     requires { ⌜ length (now state) ≡ stateWords ⌝ }
     ensures { λ r. ⌜ r ≡ attributesOf (stateOf (now (state .entry)) .rifsc) m ⌝ }
 {
+    let p = m.guarding();
+    let x = (p.0 / 32) as usize;
     Attributes {
         attr: word_in(state, ATTR, MASTERS, m.0 as usize),
+        sec: (m.0 == 0) | words::bit_of(word_in(state, SECCFGR, BIT_WORDS, x), p.0 % 32),
     }
 }

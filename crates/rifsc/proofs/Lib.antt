@@ -1,2 +1,3 @@
+pub mod NamedAccess
 pub mod NamedBits
 pub mod PortLaws

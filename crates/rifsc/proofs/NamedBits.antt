@@ -1,17 +1,13 @@
 -- The controller changes and reads named bits alone: r is a controller, M has a mask for each of its words.
 use mathlib.Core.Bool.{Bool, true, false, not, _&&_, _||_, cond}
 use mathlib.Core.Path.{_≡_, refl, sym, ap, ap₂, _∙_, subst}
-use Prim.Native.Nat.{ℕ, _+_, _/_, _%_, _<_}
-use native.Mathlib.Nat.{mod-lt}
+use Prim.Native.Nat.{ℕ, _<_}
 use native.Mathlib.Omega.{arith}
 use lib.Dec.{eqb, leb, lit<}
-use lib.ListN.{getD}
 use lib.Seq.{set-getD}
 use borrow.Author.Tests.{leb-true}
 use Rattle.words.specs.Bit.{bit, field, masked}
-use Rattle.words.specs.Six.{bitAt}
-use Rattle.words.proofs.Laws.{field-ext}
-use Rattle.words.proofs.Alike.{Within, Kept, Same, within-not, within-masked, kept-refl, same-refl, kept-word, same-word, same-masked, field-full, Each, each-get, each-set}
+use Rattle.words.proofs.Alike.{Within, Kept, Same, within-not, within-masked, kept-refl, same-refl, kept-word, same-word, same-masked, Each, each-get, each-set}
 use Rattle.access.specs.Answer.{left}
 use Rattle.access.specs.Kind.{debugger}
 use Rattle.access.specs.Offset.{within}
@@ -19,13 +15,10 @@ use Rattle.access.specs.declared.answer.Answer.{Answer}
 use Rattle.access.specs.declared.answer.Answer.the-variants.{Done, Refused, Rejected}
 use Rattle.access.specs.declared.request.Request.{Request}
 use Rattle.rifsc.specs.Contents.{stored, withStored, isLocked, seen}
-use Rattle.rifsc.specs.Masters.{masters, attributesOf, carried}
-use Rattle.rifsc.specs.Peripherals.{filterOf}
+use Rattle.rifsc.specs.Masters.{masters}
 use Rattle.rifsc.specs.Port.{readOf, attrBits, takes, wordWritten, checksOf, answerOf, written, stepped}
-use Rattle.rifsc.specs.Registers.{registerAt, ppsr, ppsrs, rowOf}
+use Rattle.rifsc.specs.Registers.{registerAt, rowOf}
 use Rattle.rifsc.specs.declared.contents.Rifsc.{Rifsc}
-use Rattle.rifsc.specs.declared.masters.MasterNumber.{MasterNumber}
-use Rattle.rifsc.specs.declared.peripherals.PeripheralNumber.{PeripheralNumber}
 use Rattle.rifsc.specs.declared.port.Seen.{Seen}
 use Rattle.rifsc.specs.declared.registers.Lock.{Lock}
 use Rattle.rifsc.specs.declared.registers.Lock.the-variants.{Glock, RimcLock, Never}
@@ -180,7 +173,7 @@ module _ {M r r′ : Rifsc} (has : Has M) (same : Alike Same M r r′) where
   stored-same : (reg : Register) → Same (stored M reg) (stored r reg) (stored r′ reg)
   stored-same reg = stored-alike (same-refl 0 0) same reg
 
-  bit-same : (reg : Register) → Placed reg → (j : ℕ) → j < 32 → bit (rowOf reg .named) j ≡ true → bit (stored r reg) j ≡ bit (stored r′ reg) j
+  pub bit-same : (reg : Register) → Placed reg → (j : ℕ) → j < 32 → bit (rowOf reg .named) j ≡ true → bit (stored r reg) j ≡ bit (stored r′ reg) j
   bit-same reg placed j l h = stored-same reg .bits j l (has reg placed j l h)
 
   locked-same : (lock : Lock) → isLocked r lock ≡ isLocked r′ lock
@@ -234,23 +227,3 @@ module _ {M r r′ : Rifsc} (has : Has M) (same : Alike Same M r r′) where
       go (Done v) false = same
       go (Refused v) w = same
       go (Rejected why) w = same
-
-  -- ---- the peripheral filter, and what a master carries
-
-  pub filter-same : (p : PeripheralNumber) → bitAt ppsrs (p .0) ≡ true → filterOf r p ≡ filterOf r′ p
-  unfolding filterOf rowOf stored ppsr
-  filter-same p h =
-      let x = p .0 / 32 in
-      let l : p .0 % 32 < 32 = mod-lt (p .0) (omega arith) in
-      rw (bit-same (Seccfgr x) tt (p .0 % 32) l h, bit-same (Privcfgr x) tt (p .0 % 32) l h)
-
-  pub carried-same : (m : MasterNumber) (write : Bool) → m .0 < masters
-      → carried (attributesOf r m) write ≡ carried (attributesOf r′ m) write
-  unfolding carried attributesOf rowOf stored
-  carried-same m write h =
-      let named = bit-same (Attr (m .0)) h in
-      rw (
-        field-ext (getD (r .attr) (m .0) 0) (getD (r′ .attr) (m .0) 0) 4 3 (λ k i. named (4 + k) (omega arith) (field-full _ 4 3 refl k i)),
-        named 8 (lit< tt) refl,
-        named 9 (lit< tt) refl,
-      )

@@ -11,6 +11,7 @@ use Rattle.access.specs.Checks.{answered, reached}
 use Rattle.rifsc.specs.Registers.{registerAt as rifsc-registerAt, ppsr, rowOf as rifsc-rowOf}
 use Rattle.rifsc.specs.Contents.{stored as rifsc-stored, withStored as rifsc-withStored, seen as rifsc-seen, reset as rifsc-reset}
 use Rattle.rifsc.specs.Port.{readOf as rifsc-readOf, takes, wordWritten as rifsc-wordWritten, checksOf as rifsc-checksOf, answerOf as rifsc-answerOf, written as rifsc-written, stepped as rifsc-stepped}
+use Rattle.rifsc.specs.Masters.{isMaster, guardingOf, attributesOf, carried}
 use Rattle.rifsc.specs.Peripherals.{exists, filterOf, grants}
 use Rattle.iac.specs.Registers.{registerAt as iac-registerAt, iisr, rowOf as iac-rowOf}
 use Rattle.iac.specs.Contents.{stored as iac-stored, reset as iac-reset}
@@ -88,7 +89,7 @@ hold (x ∷ xs) h = let p = both _ _ h in (holds x resetState (p .0), hold xs (p
 -- ---- the examples, and the wrong readings
 
 passed : (pass worked ≡ true) × (pass readings ≡ true)
-unfolding pass passes same swept worked readings flat sweptMap sweepFrom nextOf boundsOf join pairsOf rightsOf rightsWord masked merged united withBit answered reached rifsc-registerAt ppsr rifsc-rowOf rifsc-stored rifsc-withStored rifsc-seen rifsc-reset rifsc-readOf takes rifsc-wordWritten rifsc-checksOf rifsc-answerOf rifsc-written rifsc-stepped iac-registerAt iisr iac-rowOf iac-stored iac-reset iac-readOf iac-checksOf iac-answerOf iac-written iac-stepped raise raised shapeIn shapeOf regionAt subRegister regionRegister registerAt ofHead ofBase ofSub rowOf withWord reset portIn readOf delegated allowedOf subcfgrWritten wordIn checksOf answerOf accessed stepped decided memoryChecks memoryAnswer recordedFault faulted memoryStepped guardOf withGuard resetState registerStep peripheralStep exists filterOf grants memoryStep step
+unfolding pass passes same swept worked readings flat sweptMap sweepFrom nextOf boundsOf join pairsOf rightsOf rightsWord masked merged united withBit answered reached rifsc-registerAt ppsr rifsc-rowOf rifsc-stored rifsc-withStored rifsc-seen rifsc-reset rifsc-readOf takes rifsc-wordWritten rifsc-checksOf rifsc-answerOf rifsc-written rifsc-stepped iac-registerAt iisr iac-rowOf iac-stored iac-reset iac-readOf iac-checksOf iac-answerOf iac-written iac-stepped raise raised shapeIn shapeOf regionAt subRegister regionRegister registerAt ofHead ofBase ofSub rowOf withWord reset portIn readOf delegated allowedOf subcfgrWritten wordIn checksOf answerOf accessed stepped decided memoryChecks memoryAnswer recordedFault faulted memoryStepped guardOf withGuard resetState registerStep peripheralStep exists filterOf grants isMaster guardingOf attributesOf carried memoryStep step
 passed = (refl, refl)
 
 pub all-hold : AllHold worked

@@ -9,7 +9,7 @@ use Rattle.device.specs.State.{State, resetState}
 use Rattle.device.specs.Step.{step}
 use Rattle.device.specs.declared.event.Block.{Block}
 use Rattle.device.specs.declared.event.Event.{Event}
-use Rattle.device.specs.declared.event.Event.the-variants.{Register, Peripheral, Memory}
+use Rattle.device.specs.declared.event.Event.the-variants.{Register, Peripheral, Memory, Master}
 use Rattle.device.specs.declared.event.Operation.the-variants.{Read}
 use Rattle.map.specs.Map.{rowsOf}
 
@@ -42,6 +42,11 @@ asksWide width n offset write cid secure privileged =
 -- one byte wide
 abbrev pub asks : ℕ → ℕ → Bool → ℕ → Bool → Bool → Event
 asks = asksWide 1
+
+-- by a master
+abbrev pub masterAsks : ℕ → ℕ → ℕ → ℕ → Bool → Event
+masterAsks width m n offset write =
+    Master (record { master = record { 0 = m }; guard = record { 0 = n }; offset = offset; width = width; write = write })
 
 -- a read at peripheral p
 abbrev pub uses : ℕ → Bool → Bool → Event

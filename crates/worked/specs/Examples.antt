@@ -1,10 +1,10 @@
--- Document 01's marked examples, W1 to W14. Register offsets of guard 2: region 1 is at 040, its subregion A at 050.
+-- The marked examples: document 01's W1 to W14, and document 02's by their request. Register offsets of guard 2: region 1 is at 040, its subregion A at 050.
 use mathlib.Core.Bool.{true, false}
 use mathlib.Core.List.{List, [], _∷_, _++_}
 use Prim.Native.Nat.{ℕ}
 use Rattle.device.specs.declared.event.Block.{Block}
 use Rattle.device.specs.declared.event.Block.the-variants.{Rifsc, Iac, Risaf}
-use Rattle.worked.specs.Example.{Line, gives, prints, reads, writes, asks, asksWide}
+use Rattle.worked.specs.Example.{Line, gives, prints, reads, writes, asks, asksWide, masterAsks}
 
 abbrev pub guard2 : Block
 guard2 = Risaf (record { 0 = 2 })
@@ -124,6 +124,22 @@ w14 =
     ∷ gives (reads guard2 0x048 true true) 0 0x0001_0fff
     ∷ []
 
+-- Q-2 names no width either. Master 6, ATTR6 written 00000310, reading guard 2 at 0 with SEC 60 clear (1); IAESR says nonsecure
+abbrev pub q2Clear : ℕ → List Line
+q2Clear width =
+    gives (writes Rifsc 0xc28 0x0000_0310 true true) 0 0
+    ∷ gives (masterAsks width 6 2 0 false) 1 0
+    ∷ gives (reads guard2 0x020 true true) 0 0x0000_0011
+    ∷ []
+
+-- and set (0): bit 28 of SECCFGR1
+abbrev pub q2Set : ℕ → List Line
+q2Set width =
+    gives (writes Rifsc 0xc28 0x0000_0310 true true) 0 0
+    ∷ gives (writes Rifsc 0x014 0x1000_0000 true true) 0 0
+    ∷ gives (masterAsks width 6 2 0 false) 0 0
+    ∷ []
+
 unfoldable pub worked : List (List Line)
 worked =
     w1 1 ∷ w2 1 ∷ w3 1 ∷ w4 1 ∷ w5 ∷ w6 ∷ w7 ∷ w8 ∷ w9 ∷ w10 ∷ w11 ∷ w12 ∷ w13 ∷ w14
@@ -131,4 +147,6 @@ worked =
     ∷ w1 2 ∷ w2 2 ∷ w3 2 ∷ w4 2
     -- W1 to W4, width 4
     ∷ w1 4 ∷ w2 4 ∷ w3 4 ∷ w4 4
+    -- Q-2
+    ∷ q2Clear 1 ∷ q2Set 1 ∷ q2Clear 2 ∷ q2Set 2 ∷ q2Clear 4 ∷ q2Set 4
     ∷ []

@@ -5,7 +5,7 @@ use Rattle.rifsc.proofs.masters.Attributes.carried.Tie as tie
 
 returns : tie.Need-returns
 unfolding carried
-returns c = simp (c .bit-of2 .ensures, c .before .bit-of .ensures, c .before .before .field-of .ensures)
+returns c = simp (c .before .bit-of2 .ensures, c .before .before .bit-of .ensures, c .before .before .before .field-of .ensures)
 
 pub carried-spec : {M : Type 1} → statement M
 carried-spec =
