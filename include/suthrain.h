@@ -74,7 +74,8 @@ uint64_t rif_peripheral(uint32_t *state, size_t words, uint32_t peripheral, uint
 uint64_t rif_memory(uint32_t *state, size_t words, uint32_t guard, uint32_t offset, uint32_t width, bool write, uint32_t cid,
                     bool secure, bool privileged);
 
-/* A memory access by a master, with the CID, security and privilege of its ATTR. */
+/* A memory access by a master, with the CID, security and privilege of its ATTR; masters 1 to 12 go out nonsecure while the SEC bit of
+   their guarding peripheral is 0. */
 uint64_t rif_master(uint32_t *state, size_t words, uint32_t master, uint32_t guard, uint32_t offset, uint32_t width, bool write);
 
 /* The interrupt line: value 1 where it is up. */
