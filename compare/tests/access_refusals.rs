@@ -96,6 +96,7 @@ fn masters() {
     assert_eq!(word(&mut device, GUARD, 0x20), 0);
     assert_eq!(word(&mut device, GUARD, 0x24), 4);
     set(&mut device, RIFSC, 0xC40, 0x310);
+    set(&mut device, RIFSC, 0x01C, 1 << 1);
     assert_eq!(master(&mut device, 12, 2, 4, 4), (0, 0));
     device.rifsc.attr[12] = 0x370;
     assert_eq!(master(&mut device, 12, 2, 4, 4), (0, 0));

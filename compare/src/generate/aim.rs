@@ -1,11 +1,11 @@
 //! Single events, aimed at what a state holds.
 
+use super::masters::master_access;
 use super::registers::{self, direction};
 use crate::harness::random::Random;
 use crate::harness::words::region_at;
 use crate::model::{
-    Block, Direction, Event, MasterAccess, MemoryAccess, PeripheralAccess, Purpose, GUARDS,
-    MASTERS, SHAPES,
+    Block, Direction, Event, MemoryAccess, PeripheralAccess, Purpose, GUARDS, SHAPES,
 };
 
 /// The words START and END of a region, its subregion A and its subregion B.
@@ -148,31 +148,6 @@ fn access_of(asker: Asker, guard: u32, offset: u32, width: u32) -> MemoryAccess 
         cid: asker.cid,
         secure: asker.secure,
         privileged: asker.privileged,
-    }
-}
-
-/// The first master after some one whose attributes are the access's own.
-fn master_like(random: &mut Random, words: &[u32], access: &MemoryAccess) -> u32 {
-    const ATTR: usize = 20;
-    let (sec, privileged) = (u32::from(access.secure), u32::from(access.privileged));
-    let wanted = access.cid << 4 | sec << 8 | privileged << 9;
-    let first = random.below(MASTERS);
-    let mut masters = (first..first + MASTERS).map(|master| master % MASTERS);
-    let like = masters.find(|master| words[ATTR + master] & 0x370 == wanted);
-    like.unwrap_or(first) as u32
-}
-
-fn master_access(random: &mut Random, words: &[u32]) -> MasterAccess {
-    let access = memory_access(random, words);
-    MasterAccess {
-        master: match random.below(40) {
-            0 => random.pick(&[13, 14, 15, 16, 255, 256, u32::MAX]),
-            _ => master_like(random, words, &access),
-        },
-        guard: access.guard,
-        offset: access.offset,
-        width: access.width,
-        direction: access.direction,
     }
 }
 

@@ -5,6 +5,7 @@ pub mod damage;
 pub mod diffs;
 pub mod lent;
 pub mod lines;
+pub mod masters;
 pub mod registers;
 pub mod states;
 pub mod story;

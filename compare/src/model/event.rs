@@ -71,7 +71,7 @@ pub struct MemoryAccess {
     pub privileged: bool,
 }
 
-/// A memory access whose CID, security and privilege come from RIFSC's ATTR.
+/// A memory access whose CID, security and privilege come from RIFSC.
 #[derive(Clone, Copy, Debug, PartialEq, Eq)]
 pub struct MasterAccess {
     pub master: u32,

@@ -23,5 +23,5 @@ pub use guard::Guard;
 pub use iac::{Iac, IISR};
 pub use map::{lookup, spans, Span};
 pub use region::{Region, Subregion};
-pub use rifsc::{Rifsc, MASTERS, PPSR};
+pub use rifsc::{Rifsc, GUARDING, MASTERS, PPSR};
 pub use shape::{Shape, GUARDS, REGIONS_STORED, SHAPES};

@@ -7,6 +7,23 @@ use super::event::{PeripheralAccess, Purpose, RegisterAccess};
 /// Number of masters, so of ATTR registers.
 pub const MASTERS: usize = 13;
 
+/// The peripheral whose SEC bit guards a master's security; master 0 has none.
+pub const GUARDING: [Option<u32>; MASTERS] = [
+    None,
+    Some(106),
+    Some(53),
+    Some(54),
+    Some(56),
+    Some(57),
+    Some(60),
+    Some(99),
+    Some(101),
+    Some(93),
+    Some(103),
+    Some(104),
+    Some(97),
+];
+
 /// Which bits of SECCFGR, PRIVCFGR and RCFGLOCKR are present.
 pub const PPSR: [u32; 6] = [
     0xFFFF_FF7F,
@@ -164,7 +181,7 @@ impl Rifsc {
         if access.purpose == Purpose::Fetch {
             return Answer::Fetch;
         }
-        let secure_met = access.secure || !bit(self.seccfgr[word], place);
+        let secure_met = access.secure || !self.sec(p);
         let privilege_met = access.privileged || !bit(self.privcfgr[word], place);
         if secure_met && privilege_met {
             Answer::Done(0)
@@ -173,12 +190,20 @@ impl Rifsc {
         }
     }
 
-    /// The stored attributes of a master, if there is one of that number.
+    /// The stored SEC bit of a peripheral.
+    fn sec(&self, peripheral: u32) -> bool {
+        bit(self.seccfgr[(peripheral / 32) as usize], peripheral % 32)
+    }
+
+    /// What the accesses of a master carry, if there is one of that number.
+    /// MSEC is ignored while its guarding peripheral is not secure.
     pub(crate) fn master(&self, master: u32) -> Option<MasterAttributes> {
         let attr = *self.attr.get(master as usize)?;
+        let guarding = GUARDING[master as usize];
+        let guarded = guarding.is_none_or(|peripheral| self.sec(peripheral));
         Some(MasterAttributes {
             cid: cid_field(attr, 4),
-            secure: attr & MSEC != 0,
+            secure: attr & MSEC != 0 && guarded,
             privileged: attr & MPRIV != 0,
         })
     }

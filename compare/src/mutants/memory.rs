@@ -52,19 +52,19 @@ pub const MUTANTS: &[Mutant] = &[
 ];
 
 /// The memory access that an event is, also by a master.
-fn memory_access(device: &Device, event: &Event) -> Option<MemoryAccess> {
+pub fn memory_access(device: &Device, event: &Event) -> Option<MemoryAccess> {
     match event {
         Event::Memory(access) => Some(*access),
         Event::Master(access) => {
-            let attr = *device.rifsc.attr.get(access.master as usize)?;
+            let carried = device.rifsc.master(access.master)?;
             Some(MemoryAccess {
                 guard: access.guard,
                 offset: access.offset,
                 width: access.width,
                 direction: access.direction,
-                cid: attr >> 4 & 7,
-                secure: attr & 0x100 != 0,
-                privileged: attr & 0x200 != 0,
+                cid: carried.cid,
+                secure: carried.secure,
+                privileged: carried.privileged,
             })
         }
         _ => None,

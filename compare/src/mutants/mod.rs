@@ -8,6 +8,7 @@ mod diffs;
 mod lent;
 mod lines;
 mod locks;
+mod masters;
 mod memory;
 mod registers;
 mod written;
@@ -49,6 +50,7 @@ const fn mutant(
 pub fn all() -> Vec<Mutant> {
     let lists = [
         memory::MUTANTS,
+        masters::MUTANTS,
         registers::MUTANTS,
         locks::MUTANTS,
         lent::MUTANTS,
