@@ -5,6 +5,7 @@ use crate::generate::states::{crowded_state, tiled_state};
 use crate::harness::random::Random;
 use crate::harness::words::{device_of, reset_words};
 use crate::linked;
+use crate::model::diff::{diff, DIFF_ROOM};
 use crate::model::{lookup, Block, Device, Direction, Event, MemoryAccess, RegisterAccess, Span};
 use std::hint::black_box;
 
@@ -31,6 +32,8 @@ pub fn items() -> Vec<Item> {
         register("write to SECCFGR0", Block::Rifsc, 0x10, Direction::Write),
         map("map of 1 span", &reset),
         map("map of 67 spans", &tiled),
+        asked("the same by 64 accesses a row", &tiled),
+        diffs("what differs between maps of 67 and 1", &tiled, &reset),
         lookups("lookup in 67 spans", &tiled),
     ]
 }
@@ -138,10 +141,57 @@ fn map(name: &'static str, words: &[u32]) -> Item {
     item(name, 1, proved, second)
 }
 
-fn lookups(name: &'static str, words: &[u32]) -> Item {
+/// Every kind of asking at the start of every row.
+fn asked(name: &'static str, words: &[u32]) -> Item {
+    let (mut state, mut device) = (words.to_vec(), device_of(words));
+    let spans = device.map(GUARD).expect("there is the guard");
+    let every = |span: Span| {
+        (0..64).map(move |kind: u32| MemoryAccess {
+            guard: GUARD,
+            offset: span.start as u32,
+            width: 1,
+            direction: [Direction::Read, Direction::Write][(kind >> 3 & 1) as usize],
+            cid: kind & 7,
+            privileged: kind >> 4 & 1 == 1,
+            secure: kind >> 5 == 1,
+        })
+    };
+    let list: Vec<MemoryAccess> = spans.into_iter().flat_map(every).collect();
+    let events = list.clone();
+    let proved = move || {
+        for access in &list {
+            black_box(linked::memory(&mut state, access));
+        }
+    };
+    let second = move || {
+        for access in &events {
+            black_box(device.apply(&Event::Memory(*access)));
+        }
+    };
+    item(name, 1, proved, second)
+}
+
+fn numbers_of(words: &[u32]) -> Vec<u64> {
     let spans = device_of(words).map(GUARD).expect("there is the guard");
     let row = |span: Span| [span.start, span.end, span.rights];
-    let numbers: Vec<u64> = spans.into_iter().flat_map(row).collect();
+    spans.into_iter().flat_map(row).collect()
+}
+
+fn diffs(name: &'static str, before: &[u32], after: &[u32]) -> Item {
+    let (old, new) = (numbers_of(before), numbers_of(after));
+    let (same_old, same_new) = (old.clone(), new.clone());
+    let (mut room, mut used, mut other) = (vec![0; DIFF_ROOM], 0, vec![0; DIFF_ROOM]);
+    let proved = move || {
+        black_box(linked::diff(GUARD, &old, &new, &mut room, &mut used));
+    };
+    let second = move || {
+        black_box(diff(GUARD, &same_old, &same_new, &mut other));
+    };
+    item(name, 1, proved, second)
+}
+
+fn lookups(name: &'static str, words: &[u32]) -> Item {
+    let numbers = numbers_of(words);
     let mut random = Random::new(1);
     let offset = |_| u64::from(random.word());
     let offsets: Vec<u64> = (0..SINGLE).map(offset).collect();
