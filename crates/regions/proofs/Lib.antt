@@ -1,3 +1,4 @@
+pub mod ByteBits
 pub mod Digits
 pub mod Enough
 pub mod MaskTally

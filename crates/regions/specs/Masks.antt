@@ -100,6 +100,10 @@ rightsFrom m at wide = word wide (λ i. judged (tallyOf m (kindOf (at + i))) (ki
 abbrev pub byteAt : Bool → Bool → Bool → ℕ
 byteAt write privileged secure = 8 * (one write + 2 * one privileged + 4 * one secure)
 
+-- that byte: bit c is what they say to CID c
+abbrev pub byteOf : Masks → Bool → Bool → Bool → ℕ
+byteOf m write privileged secure = rightsFrom m (byteAt write privileged secure) 8
+
 -- the compartments with the bit of the direction that are not closed, where b holds
 unfoldable pub openTo : ℕ → ℕ → ℕ → Bool → Bool → ℕ
 openTo reads writes closed write b = word 8 (λ c. b && not (bit closed c) && cond write (bit writes c) (bit reads c))

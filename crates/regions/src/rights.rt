@@ -8,7 +8,7 @@ use crate::places::WRITES;
 ghost use mathlib.Core.Bool.{false, cond};
 ghost use mathlib.Core.Path.{_≡_};
 ghost use Rattle.regions.specs.Lent.{rightsIn};
-ghost use Rattle.regions.specs.Masks.{byteAt, openTo, rightsFrom};
+ghost use Rattle.regions.specs.Masks.{byteAt, byteOf, openTo, rightsFrom};
 
 // The compartments that pass every compartment test, the debugger's, and those that rule 0 admits.
 const ALWAYS: u32 = 0x80;
@@ -40,7 +40,7 @@ fn closed(privc: u32, privileged: bool) -> u32
 
 // The byte of the rights word for a direction, a privilege and a security, bit c for CID c.
 fn byte(m: Masks, write: bool, privileged: bool, secure: bool) -> u32
-    ensures { λ r. ⌜ r ≡ rightsFrom m (byteAt write privileged secure) 8 ⌝ }
+    ensures { λ r. ⌜ r ≡ byteOf m write privileged secure ⌝ }
 {
     if m.counted {
         let may = (secure == m.secure) & (privileged | !m.privileged);
