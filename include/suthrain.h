@@ -12,7 +12,9 @@
  *   20..32   ATTR0..12
  *   33..38   IAC IER0..5
  *   39..44   ISR0..5
- *   45..     136 words for each guard, in the order 1 to 9, 11 to 14: CR, IASR, IAESR, IADDR, and eleven regions of twelve words
+ *   45       the interrupt line, as it is kept: bit 0
+ *   46       the count of flags that are set and enabled, as it is kept: bits 7:0
+ *   47..     136 words for each guard, in the order 1 to 9, 11 to 14: CR, IASR, IAESR, IADDR, and eleven regions of twelve words
  *            (CFGR, START, END, CIDCFGR, subregion A's CFGR, START, END, NEST, subregion B's four), whatever the guard's own
  *            count of regions.
  *
@@ -46,7 +48,7 @@
 extern "C" {
 #endif
 
-#define RIF_STATE_WORDS 1813 /* the exact count of words of a state */
+#define RIF_STATE_WORDS 1815 /* the exact count of words of a state */
 #define RIF_MAP_NUMBERS 201  /* the least count of numbers lent for a map: 67 rows of three */
 #define RIF_DIFF_NUMBERS 665 /* the least count of numbers lent for what differs: 133 rows of five */
 
@@ -78,7 +80,7 @@ uint64_t rif_memory(uint32_t *state, size_t words, uint32_t guard, uint32_t offs
    their guarding peripheral is 0. */
 uint64_t rif_master(uint32_t *state, size_t words, uint32_t master, uint32_t guard, uint32_t offset, uint32_t width, bool write);
 
-/* The interrupt line: value 1 where it is up. */
+/* The interrupt line, as it is kept (word 45): value 1 where it is up. */
 uint64_t rif_line(const uint32_t *state, size_t words);
 
 /*

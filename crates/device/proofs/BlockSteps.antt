@@ -57,23 +57,23 @@ module _ (s : State) (q : Request) {reg : Register} {row : Row} {v : Seen} {r : 
 -- ---- the IAC, by what the code's calls give
 
 module _ (s : State) (q : Request) {reg : IacRegister} {row : IacRow} {v : IacSeen} {r : IacAccessed} (eg : reg ≡ iac-registers.registerAt (q .offset))
-    (er : row ≡ iac-registers.rowOf reg) (ev : v .word ≡ iac-contents.stored (s .iac) reg) (ea : r ≡ iac.accessed reg row v q) where
+    (er : row ≡ iac-registers.rowOf reg) (ev : v ≡ iac-contents.seen (s .iac) reg) (ea : r ≡ iac.accessed reg row v q) where
   flags-is : registerStep Iac q s
       ≡ settled (r .answer) iacFlag s
       (withIac s
-      (left (r .answer) (s .iac) (cond (q .write) (iac-contents.withStored (s .iac) reg (iac.wordWritten reg (v .word) (q .value))) (s .iac)) (s .iac)))
-  unfolding registerStep iac.stepped iac.written iac.accessed
+      (left (r .answer) (s .iac) (cond (q .write) (iac-contents.withStored (s .iac) reg (iac.rewritten reg row v (q .value))) (s .iac)) (s .iac)))
+  unfolding registerStep iac.stepped iac.written iac.accessed iac-contents.seen
   flags-is = rw (ea, ev, er, eg)
 
   pub flags-answer : r .answer ≡ registerStep Iac q s .answer
   flags-answer = sym (ap (λ (o : Outcome). o .answer) flags-is)
 
   pub flags-written : {t : State} {x : ℕ} → r .answer ≡ Done x → q .write ≡ true
-      → t ≡ withIac s (iac-contents.withStored (s .iac) reg (r .next .word)) → t ≡ registerStep Iac q s .next
+      → t ≡ withIac s (iac-contents.withStored (s .iac) reg (r .next)) → t ≡ registerStep Iac q s .next
   unfolding iac.accessed
   flags-written d w e =
-      let n : r .next .word ≡ iac.wordWritten reg (v .word) (q .value) = ap (λ (o : IacAccessed). o .next .word) ea ∙ rw (sym (ap (λ (o : IacAccessed). o .answer) ea) ∙ d, w) in
-      rw flags-is (rw (d, w) (e ∙ ap (λ (k : ℕ). withIac s (iac-contents.withStored (s .iac) reg k)) n))
+      let n : r .next ≡ iac.rewritten reg row v (q .value) = ap (λ (o : IacAccessed). o .next) ea ∙ rw (sym (ap (λ (o : IacAccessed). o .answer) ea) ∙ d, w) in
+      rw flags-is (rw (d, w) (e ∙ ap (λ (k : IacSeen). withIac s (iac-contents.withStored (s .iac) reg k)) n))
 
   pub flags-read : {x : ℕ} → r .answer ≡ Done x → q .write ≡ false → s ≡ registerStep Iac q s .next
   flags-read d w = rw flags-is (rw (d, w) refl)

@@ -13,7 +13,6 @@ use Rattle.rifsc.specs.Masters.{isMaster, attributesOf, carried}
 use Rattle.rifsc.specs.Port as rifsc
 use Rattle.rifsc.specs.Registers as rifsc-registers
 use Rattle.rifsc.specs.declared.contents.Rifsc.{Rifsc as RifscWords}
-use Rattle.iac.specs.Contents as iac-contents
 use Rattle.iac.specs.Port as iac
 use Rattle.iac.specs.Registers as iac-registers
 use Rattle.iac.specs.declared.contents.Iac.{Iac as IacWords}
@@ -63,7 +62,7 @@ rifscWritten q r =
 abbrev iacWritten : Request → IacWords → IacWords
 iacWritten q i =
     let reg = iac-registers.registerAt (q .offset) in
-    iac.written i reg (iac-contents.stored i reg) q
+    iac.written i reg q
 
 -- the row of the register that a request is to, at guard n
 abbrev rowAt : ℕ → Request → Row

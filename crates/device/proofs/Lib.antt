@@ -3,6 +3,7 @@ pub mod BlockSteps
 pub mod Effects
 pub mod GuardLayout
 pub mod GuardSteps
+pub mod HeldRuns
 pub mod LockWrites
 pub mod Locks
 pub mod MasterAccesses

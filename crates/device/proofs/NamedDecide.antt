@@ -24,7 +24,7 @@ use Rattle.rifsc.specs.declared.peripherals.PeripheralNumber.{PeripheralNumber}
 use Rattle.rifsc.proofs.NamedAccess.{filter-same, carried-same}
 use Rattle.rifsc.proofs.NamedBits as rifsc
 use Rattle.iac.specs.Contents as iac-contents
-use Rattle.iac.specs.Flags.{line}
+use Rattle.iac.specs.Held.{heldLine}
 use Rattle.iac.proofs.NamedBits as iac
 use Rattle.risaf.specs.Contents as risaf-contents
 use Rattle.risaf.specs.Guards.{shapeOf}
@@ -160,8 +160,8 @@ unfolding lineAnswer
 named-line m m′ l fits fits′ agree = rw (← l) (go (eqb (length m) stateWords) refl)
   where
     go : (b : Bool) → eqb (length m) stateWords ≡ b
-        → cond b (Done (one (line (stateOf m .iac)))) (Rejected WrongLength)
-        ≡ cond b (Done (one (line (stateOf m′ .iac)))) (Rejected WrongLength)
+        → cond b (Done (one (heldLine (stateOf m .iac)))) (Rejected WrongLength)
+        ≡ cond b (Done (one (heldLine (stateOf m′ .iac)))) (Rejected WrongLength)
     go true h =
         let same = states-same m m′ (eqb-true (length m) stateWords h) l fits fits′ agree in
         rw (iac.line-same iac-has (same .iac))

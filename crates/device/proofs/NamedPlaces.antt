@@ -23,6 +23,7 @@ use Rattle.rifsc.proofs.NamedBits as rifsc-named
 use Rattle.iac.specs.Contents as iac-contents
 use Rattle.iac.specs.Registers as iac
 use Rattle.iac.specs.Registers.{iisr, iisrs}
+use Rattle.iac.specs.declared.registers.Register.{Register as IacRegister}
 use Rattle.iac.specs.declared.registers.Register.the-variants as in-iac
 use Rattle.iac.proofs.NamedBits as iac-named
 use Rattle.risaf.specs.Contents.{headWords, iaesrAt, guardSize, guardWords, guardFrom}
@@ -35,7 +36,7 @@ use Rattle.risaf.specs.declared.registers.SubField.the-variants.{SubCfgr, SubSt
 use Rattle.risaf.specs.declared.registers.Register.the-variants.{OfHead, OfBase, OfSub, Unknown}
 use Rattle.risaf.proofs.NamedWords as risaf-named
 use Rattle.risaf.proofs.Shapes.{noRow, by-guard, regions-most}
-use Rattle.device.specs.Layout.{placeIn, headSizes, guardsAt, stateWords, rimccrPart, attrPart, isrPart, joined, layout, partsOf, stateOf}
+use Rattle.device.specs.Layout.{placeIn, headSizes, guardsAt, stateWords, rimccrPart, attrPart, isrPart, linePart, countPart, joined, layout, partsOf, stateOf}
 use Rattle.device.specs.Named.{firsts, namedSub, namedRegion, namedGuard, namedState, namedOf}
 use Rattle.device.specs.State.{guardAt}
 
@@ -53,6 +54,15 @@ rimc-cr = refl
 isr-4 : namedOf (placeIn headSizes isrPart + 4) ≡ 0x7bef_ffef
 unfolding namedSub namedRegion namedGuard namedState namedOf layout joined iac.rowOf iisr
 isr-4 = refl
+
+-- the line and the count
+line-0 : namedOf (placeIn headSizes linePart) ≡ 0x0000_0001
+unfolding namedSub namedRegion namedGuard namedState namedOf layout joined
+line-0 = refl
+
+count-7-0 : namedOf (placeIn headSizes countPart) ≡ 0x0000_00ff
+unfolding namedSub namedRegion namedGuard namedState namedOf layout joined
+count-7-0 = refl
 
 iaesr-1 : namedOf (guardsAt + iaesrAt) ≡ 0x0000_00b7
 unfolding namedSub namedRegion namedGuard namedState namedOf layout joined ofHead
@@ -120,13 +130,17 @@ rifsc-has (in-rifsc.Attr m) placed = within-is _ _ (firsts-at masters m (λ i. r
 rifsc-has (in-rifsc.Ppsr x) placed = λ j l h. h
 rifsc-has in-rifsc.Unknown placed = λ j l h. h
 
-pub iac-has : iac-named.Has (namedState .iac)
+iac-words : (reg : IacRegister) → Within (iac.rowOf reg .named) (iac-contents.stored (namedState .iac) reg)
 unfolding namedState iac-contents.stored iac.rowOf
-iac-has (in-iac.Ier x) = iisr-within x
-iac-has (in-iac.Isr x) = iisr-within x
-iac-has (in-iac.Icr x) = iisr-within x
-iac-has (in-iac.Iisr x) = λ j l h. h
-iac-has in-iac.Unknown = λ j l h. h
+iac-words (in-iac.Ier x) = iisr-within x
+iac-words (in-iac.Isr x) = iisr-within x
+iac-words (in-iac.Icr x) = iisr-within x
+iac-words (in-iac.Iisr x) = λ j l h. h
+iac-words in-iac.Unknown = λ j l h. h
+
+pub iac-has : iac-named.Has (namedState .iac)
+unfolding namedState
+iac-has = record { words = iac-words; line = λ j l h. h; count = λ j l h. h }
 
 -- ---- a guard
 

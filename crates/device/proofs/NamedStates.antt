@@ -11,7 +11,7 @@ use Rattle.risaf.specs.Guards.{shapeOf}
 use Rattle.risaf.specs.declared.contents.Guard.{Guard}
 use Rattle.risaf.proofs.NamedWords as risaf
 use Rattle.risaf.proofs.NamedWords.{words-alike, from-alike}
-use Rattle.device.specs.Layout.{headSizes, guardSizes, guardsAt, crPart, seccfgrPart, privcfgrPart, rcfglockrPart, rimccrPart, attrPart, ierPart, isrPart, stateWords, partsOf, joined, layout, stateOf}
+use Rattle.device.specs.Layout.{headSizes, guardSizes, guardsAt, crPart, seccfgrPart, privcfgrPart, rcfglockrPart, rimccrPart, attrPart, ierPart, isrPart, linePart, countPart, stateWords, partsOf, joined, layout, stateOf}
 use Rattle.device.specs.Named.{namedState}
 use Rattle.device.specs.State.{State, guardAt, guardOf, withGuard}
 use Rattle.device.proofs.NamedPlaces.{named-length, named-parts}
@@ -48,7 +48,13 @@ module _ {R : ℕ → ℕ → ℕ → Type 0} where
               rimccr = each-get (each-get parts none rimccrPart) z 0;
               attr = each-get parts none attrPart;
             };
-        iac = record { ier = each-get parts none ierPart; isr = each-get parts none isrPart };
+        iac =
+            record {
+              ier = each-get parts none ierPart;
+              isr = each-get parts none isrPart;
+              line = each-get (each-get parts none linePart) z 0;
+              count = each-get (each-get parts none countPart) z 0;
+            };
         guards = each-map guardFrom (λ a x y r. from-alike z r) (parts-alike guardSizes (each-drop e guardsAt));
       }
 
@@ -65,7 +71,9 @@ module _ {R : ℕ → ℕ → ℕ → Type 0} where
       (more (more (c .rimccr) none)
       (more (c .attr)
       (more (r .iac .ier)
-      (more (r .iac .isr) none)))))))))
+      (more (r .iac .isr)
+      (more (more (r .iac .line) none)
+      (more (more (r .iac .count) none) none)))))))))))
       (joined-alike (each-map guardWords (λ a x y g. words-alike g) (r .guards)))
 
   -- ---- guard n, and the state with another

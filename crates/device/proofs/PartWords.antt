@@ -69,12 +69,12 @@ module _ {m m′ : List ℕ} (x v : ℕ) where
   unfolding stateOf partsOf withStored
   attr-stored s = heads-state s
 
-  pub ier-stored : OfPart m m′ x v ierPart → stateOf m′ ≡ withIac (stateOf m) (iac.withStored (stateOf m .iac) (Ier x) v)
-  unfolding stateOf partsOf iac.withStored
+  pub ier-stored : OfPart m m′ x v ierPart → stateOf m′ ≡ withIac (stateOf m) (iac.withWord (stateOf m .iac) (Ier x) v)
+  unfolding stateOf partsOf iac.withWord
   ier-stored s = heads-state s
 
-  pub isr-stored : OfPart m m′ x v isrPart → stateOf m′ ≡ withIac (stateOf m) (iac.withStored (stateOf m .iac) (Icr x) v)
-  unfolding stateOf partsOf iac.withStored
+  pub isr-stored : OfPart m m′ x v isrPart → stateOf m′ ≡ withIac (stateOf m) (iac.withWord (stateOf m .iac) (Icr x) v)
+  unfolding stateOf partsOf iac.withWord
   isr-stored s = heads-state s
 
 module _ {m m′ : List ℕ} (v : ℕ) where

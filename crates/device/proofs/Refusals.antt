@@ -14,6 +14,7 @@ use Rattle.access.specs.declared.kind.Kind.{Kind}
 use Rattle.access.specs.declared.request.Request.{Request}
 use Rattle.rifsc.specs.Masters.{attributesOf, carried}
 use Rattle.rifsc.specs.Port as rifsc
+use Rattle.iac.specs.Contents.{withWord as withIacWord, withStored}
 use Rattle.iac.specs.Flags.{raise}
 use Rattle.iac.specs.Port as iac
 use Rattle.iac.specs.declared.contents.Iac.{Iac as IacWords}
@@ -42,7 +43,7 @@ refusal-leaves e s h =
 -- ---- 1 changes flags and fault registers alone
 
 raise-ier : (i : Flag) (s : IacWords) → raise i s .ier ≡ s .ier
-unfolding raise
+unfolding raise withStored withIacWord
 raise-ier i s = refl
 
 flag-kept : (i : Flag) (s : State) → settings (flagged i s) ≡ settings s

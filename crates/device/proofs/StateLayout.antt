@@ -10,8 +10,9 @@ use Rattle.risaf.specs.Contents.{headWords, guardSize, guardWords, guardFrom}
 use Rattle.risaf.specs.Guards.{guardCount}
 use Rattle.rifsc.specs.declared.contents.Rifsc.{Rifsc}
 use Rattle.iac.specs.declared.contents.Iac.{Iac}
+use Rattle.iac.specs.Contents.{withHeld}
 use Rattle.device.specs.State.{withRifsc, withIac}
-use Rattle.device.specs.Layout.{placeIn, total, partsOf, joined, headSizes, guardSizes, guardsAt, stateWords, crPart, seccfgrPart, privcfgrPart, rcfglockrPart, rimccrPart, attrPart, ierPart, isrPart, only, headOf, layout, stateFrom, stateOf}
+use Rattle.device.specs.Layout.{placeIn, total, partsOf, joined, headSizes, guardSizes, guardsAt, stateWords, crPart, seccfgrPart, privcfgrPart, rcfglockrPart, rimccrPart, attrPart, ierPart, isrPart, linePart, countPart, only, headOf, layout, stateFrom, stateOf}
 use Rattle.device.proofs.Parts.{joined-parts, part-is, part-length, part-paste, paste-past, set-paste, total-alike, place-most}
 
 -- ---- a guard as words
@@ -56,6 +57,8 @@ module _ (m : List ℕ) (h : length m ≡ stateWords) where
       rw (
         one-word (getD heads crPart []) (part-length headSizes m crPart (lit< tt) (omega arith)),
         one-word (getD heads rimccrPart []) (part-length headSizes m rimccrPart (lit< tt) (omega arith)),
+        one-word (getD heads linePart []) (part-length headSizes m linePart (lit< tt) (omega arith)),
+        one-word (getD heads countPart []) (part-length headSizes m countPart (lit< tt) (omega arith)),
       )
 
   pub layout-of : layout (stateOf m) ≡ m
@@ -123,15 +126,24 @@ head-word m k l e =
 -- ---- the blocks stored
 
 module _ {m m′ : List ℕ} where
-  pub iac-stored : (i : Iac) → Heads m (set (set (partsOf headSizes m) ierPart (i .ier)) isrPart (i .isr)) m′
+  pub iac-stored : (i : Iac)
+      → Heads m
+      (set (set (set (set (partsOf headSizes m) ierPart (i .ier)) isrPart (i .isr)) linePart (i .line ∷ [])) countPart (i .count ∷ [])) m′
       → stateOf m′ ≡ withIac (stateOf m) i
   unfolding stateOf partsOf
   iac-stored i s = heads-state s ∙ by (guardParts m)
     where
       by : (gs : List (List ℕ))
-          → stateFrom (set (set (partsOf headSizes m) ierPart (i .ier)) isrPart (i .isr)) gs
+          → stateFrom
+          (set (set (set (set (partsOf headSizes m) ierPart (i .ier)) isrPart (i .isr)) linePart (i .line ∷ [])) countPart (i .count ∷ [])) gs
           ≡ withIac (stateFrom (partsOf headSizes m) gs) i
       by gs = refl
+
+  -- the line and the count alone
+  pub held-stored : (line count : ℕ) → Heads m (set (set (partsOf headSizes m) linePart (line ∷ [])) countPart (count ∷ [])) m′
+      → stateOf m′ ≡ withIac (stateOf m) (withHeld (stateOf m .iac) line count)
+  unfolding stateOf partsOf
+  held-stored line count s = heads-state s
 
   pub rifsc-stored : (r : Rifsc)
       → Heads m

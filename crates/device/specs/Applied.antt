@@ -8,7 +8,7 @@ use Rattle.access.specs.declared.answer.Answer.{Answer}
 use Rattle.access.specs.declared.answer.Answer.the-variants.{Done, Rejected}
 use Rattle.access.specs.declared.answer.Why.the-variants.{WrongLength}
 use Rattle.words.specs.Bit.{one}
-use Rattle.iac.specs.Flags.{line}
+use Rattle.iac.specs.Held.{heldLine}
 use Rattle.device.specs.Layout.{stateWords, layout, stateOf}
 use Rattle.device.specs.Step.{step}
 use Rattle.device.specs.declared.event.Event.{Event}
@@ -22,6 +22,6 @@ appliedAnswer e m = cond (sized m) (step e (stateOf m) .answer) (Rejected WrongL
 unfoldable pub appliedState : Event → List ℕ → List ℕ
 appliedState e m = cond (sized m) (layout (step e (stateOf m) .next)) m
 
--- the interrupt line of the state in lent memory: value 1 where it is up
+-- the interrupt line of the state in lent memory, as it is kept: value 1 where it is up
 unfoldable pub lineAnswer : List ℕ → Answer
-lineAnswer m = cond (sized m) (Done (one (line (stateOf m .iac)))) (Rejected WrongLength)
+lineAnswer m = cond (sized m) (Done (one (heldLine (stateOf m .iac)))) (Rejected WrongLength)

@@ -59,12 +59,18 @@ ierPart = 6
 abbrev pub isrPart : ℕ
 isrPart = 7
 
+abbrev pub linePart : ℕ
+linePart = 8
+
+abbrev pub countPart : ℕ
+countPart = 9
+
 abbrev pub headSizes : List ℕ
 headSizes =
     -- RIFSC: CR, SECCFGR, PRIVCFGR, RCFGLOCKR, RIMC_CR, ATTR
     1 ∷ bitWords ∷ bitWords ∷ bitWords ∷ 1 ∷ masters
-    -- IAC: IER, ISR
-    ∷ bitWords ∷ bitWords
+    -- IAC: IER, ISR, the line, the count
+    ∷ bitWords ∷ bitWords ∷ 1 ∷ 1
     ∷ []
 
 -- the guards behind them, in rising number
@@ -82,7 +88,7 @@ stateWords = guardsAt + guardCount * guardSize
 abbrev pub headOf : State → List (List ℕ)
 headOf s =
     (s .rifsc .cr ∷ []) ∷ s .rifsc .seccfgr ∷ s .rifsc .privcfgr ∷ s .rifsc .rcfglockr ∷ (s .rifsc .rimccr ∷ []) ∷ s .rifsc .attr
-    ∷ s .iac .ier ∷ s .iac .isr
+    ∷ s .iac .ier ∷ s .iac .isr ∷ (s .iac .line ∷ []) ∷ (s .iac .count ∷ [])
     ∷ []
 
 unfoldable pub layout : State → List ℕ
@@ -105,7 +111,13 @@ stateFrom ps gs =
             rimccr = only (getD ps rimccrPart []);
             attr = getD ps attrPart [];
           };
-      iac = record { ier = getD ps ierPart []; isr = getD ps isrPart [] };
+      iac =
+          record {
+            ier = getD ps ierPart [];
+            isr = getD ps isrPart [];
+            line = only (getD ps linePart []);
+            count = only (getD ps countPart []);
+          };
       guards = map guardFrom gs;
     }
 

@@ -65,6 +65,9 @@ namedState =
           record {
             ier = firsts bitWords (λ x. iac.rowOf (Ier x) .named);
             isr = firsts bitWords (λ x. iac.rowOf (Isr x) .named);
+            -- the line is bit 0 of its word, the count bits 7:0 of its word (Q-4)
+            line = 0x0000_0001;
+            count = 0x0000_00ff;
           };
       guards = map (λ (g : GuardRow). namedGuard (g .regions)) guards;
     }

@@ -1,4 +1,3 @@
-use crate::blocks::load_iac;
 use crate::controller::load_attributes;
 use crate::event::Block;
 use crate::event::Event;
@@ -6,6 +5,7 @@ use crate::event::MasterAccess;
 use crate::event::MemoryAccess;
 use crate::event::PeripheralAccess;
 use crate::event::RegisterAccess;
+use crate::layout::LINE;
 use crate::layout::STATE_WORDS;
 use crate::memory::access_memory;
 use crate::peripherals::access_peripheral;
@@ -108,12 +108,12 @@ pub fn apply(state: &mut [u32], event: Event) -> Answer
     }
 }
 
-// The interrupt line: value 1 where it is up.
+// The interrupt line, as it is kept: value 1 where it is up.
 pub fn interrupt_line(state: &[u32]) -> Answer
     ensures { λ r. ⌜ r ≡ lineAnswer (now (state .entry)) ⌝ }
 {
     if state.len() != STATE_WORDS {
         return Answer::Rejected(Why::WrongLength);
     }
-    Answer::Done(load_iac(state).line() as u32)
+    Answer::Done(words::bit_of(state[LINE], 0) as u32)
 }

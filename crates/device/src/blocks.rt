@@ -1,8 +1,10 @@
-// The blocks by value, out of the state's memory and into it.
+// The blocks by value, into the state's memory.
 use crate::layout::ATTR;
+use crate::layout::COUNT;
 use crate::layout::CR;
 use crate::layout::IER;
 use crate::layout::ISR;
+use crate::layout::LINE;
 use crate::layout::PRIVCFGR;
 use crate::layout::RCFGLOCKR;
 use crate::layout::RIMC_CR;
@@ -13,7 +15,7 @@ use rifsc::Rifsc;
 use words::BIT_WORDS;
 ghost use mathlib.Core.Path.{_≡_};
 ghost use Prim.Native.Nat.{_+_, _≤_};
-ghost use lib.ListN.{drop, length, take};
+ghost use lib.ListN.{length};
 ghost use lib.Seq.{paste};
 ghost use Rattle.words.specs.Six.{bitWords};
 ghost use Rattle.rifsc.specs.Masters.{masters};
@@ -28,16 +30,6 @@ pub(crate) fn copy_words(dst: &mut [u32], at: usize, words: &[u32])
     for k in 0..words.len() {
         dst[at + k] = words[k];
     }
-}
-
-// The six words from at on.
-fn six(state: &[u32], at: usize) -> [u32; BIT_WORDS]
-    requires { ⌜ at + bitWords ≤ length (now state) ⌝ }
-    ensures { λ r. ⌜ r ≡ take bitWords (drop at (now (state .entry))) ⌝ }
-{
-    let mut words = [0u32; BIT_WORDS];
-    copy_words(&mut words, 0, &state[at..at + BIT_WORDS]);
-    words
 }
 
 // Stores six words from at on.
@@ -72,16 +64,6 @@ pub(crate) fn store_rifsc(state: &mut [u32], r: Rifsc)
     state[RIMC_CR] = r.rimccr;
 }
 
-pub(crate) fn load_iac(state: &[u32]) -> Iac
-    requires { ⌜ length (now state) ≡ stateWords ⌝ }
-    ensures { λ r. ⌜ r ≡ stateOf (now (state .entry)) .iac ⌝ }
-{
-    Iac {
-        ier: six(state, IER),
-        isr: six(state, ISR),
-    }
-}
-
 pub(crate) fn store_iac(state: &mut [u32], i: Iac)
     requires { ⌜ length (now state) ≡ stateWords ⌝ }
     ensures { λ _. ⌜ stateOf (now (state .exit)) ≡ withIac (stateOf (now (state .entry))) i ⌝ }
@@ -90,4 +72,6 @@ pub(crate) fn store_iac(state: &mut [u32], i: Iac)
     let isr = i.isr;
     store_six(state, IER, ier);
     store_six(state, ISR, isr);
+    state[LINE] = i.line;
+    state[COUNT] = i.count;
 }

@@ -26,8 +26,13 @@ pub(crate) const IER: usize = ATTR + MASTERS;
 
 pub(crate) const ISR: usize = IER + BIT_WORDS;
 
+// The interrupt line, bit 0 of its word, and the count of flags set and enabled, bits 7:0 of its word.
+pub(crate) const LINE: usize = ISR + BIT_WORDS;
+
+pub(crate) const COUNT: usize = LINE + 1;
+
 // The guards, in rising number.
-pub(crate) const GUARDS: usize = ISR + BIT_WORDS;
+pub(crate) const GUARDS: usize = COUNT + 1;
 
 // How many words the state has.
 pub const STATE_WORDS: usize = GUARDS + GUARD_COUNT * GUARD_WORDS;

@@ -8,7 +8,6 @@ use crate::guards::store_word;
 use access::Answer;
 use access::Flag;
 use access::Request;
-use iac::Seen;
 use risaf::GuardNumber;
 use risaf::IASR;
 ghost use mathlib.Core.Path.{_≡_};
@@ -52,16 +51,13 @@ pub(crate) fn access_iac(state: &mut [u32], q: Request) -> Answer
     ensures next { λ _. ⌜ stateOf (now (state .exit)) ≡ registerStep Iac q (stateOf (now (state .entry))) .next ⌝ }
 {
     let reg = iac::register_at(q.offset);
-    let seen = Seen {
-        word: load_flags(state, reg),
-    };
-    let accessed = seen.access(reg, reg.row(), q);
+    let accessed = load_flags(state, reg).access(reg, reg.row(), q);
     let answer = accessed.answer;
     let next = accessed.next;
     match answer {
         Answer::Done(_) => {
             if q.write {
-                store_flags(state, reg, next.word);
+                store_flags(state, reg, next);
             }
         }
         Answer::Refused(_) => raise(state, IAC_FLAG),

@@ -1,3 +1,5 @@
-pub mod FlagLaws
+pub mod HeldExamples
+pub mod HeldLaws
+pub mod HeldTrue
 pub mod NamedBits
 pub mod PortLaws

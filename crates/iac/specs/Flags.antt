@@ -1,4 +1,4 @@
--- Raising a flag, and the interrupt line: document 01, "IAC".
+-- Raising a flag, and what the interrupt line should be: document 01, "IAC".
 use mathlib.Core.Bool.{Bool, true, _&&_, cond}
 use Prim.Native.Nat.{ℕ, _/_, _%_}
 use lib.ListN.{getD}
@@ -7,21 +7,23 @@ use Rattle.words.specs.Six.{bitAt, bitWords}
 use Rattle.access.specs.Fold.{any}
 use Rattle.access.specs.declared.flag.Flag.{Flag}
 use Rattle.iac.specs.Registers.{iisr, iisrs}
-use Rattle.iac.specs.Contents.{withIsr}
+use Rattle.iac.specs.Contents.{seen, withStored}
+use Rattle.iac.specs.Held.{held}
 use Rattle.iac.specs.declared.contents.Iac.{Iac}
 use Rattle.iac.specs.declared.port.Seen.{Seen}
+use Rattle.iac.specs.declared.registers.Register.the-variants.{Icr}
 
--- raising index i sets ISR bit i if IISR bit i is 1, else nothing; v is the word of ISR that has the bit
+-- raising index i sets ISR bit i if IISR bit i is 1, else nothing; the word of v is that of ISR that has the bit
 unfoldable pub raised : Flag → Seen → Seen
-raised i v = cond (bitAt iisrs (i .0)) (record { word = withBit 32 (v .word) (i .0 % 32) true }) v
+raised i v = cond (bitAt iisrs (i .0)) (held (iisr (i .0 / 32)) v (withBit 32 (v .word) (i .0 % 32) true)) v
 
 unfoldable pub raise : Flag → Iac → Iac
-raise i s = withIsr s (i .0 / 32) (raised i (record { word = getD (s .isr) (i .0 / 32) 0 }) .word)
+raise i s = withStored s (Icr (i .0 / 32)) (raised i (seen s (Icr (i .0 / 32))))
 
 -- some flag of ISRx and its enable of IERx are both 1; the words are those two
 unfoldable pub lineOf : ℕ → ℕ → ℕ → Bool
 lineOf x isr ier = any 32 (λ i. bit (iisr x) i && bit isr i && bit ier i)
 
--- the line is up when some flag and its enable are both 1
+-- the line is up when some flag and its enable are both 1; what is kept of it is Held
 unfoldable pub line : Iac → Bool
 line s = any bitWords (λ x. lineOf x (getD (s .isr) x 0) (getD (s .ier) x 0))

@@ -2,8 +2,10 @@
 --     Registers    meaning: which register an offset is, and the table of registers
 --     Contents     meaning: what is stored, and reset
 --     Port         meaning: a register access; accessed is what code goes by, and device/proofs/BlockSteps has the law that it is stepped
---     Flags        meaning: raising a flag, and the interrupt line
+--     Flags        meaning: raising a flag, and what the interrupt line should be
+--     Held         meaning: the line and the count of flags set and enabled, as they are kept (Q-4)
 pub mod Contents
 pub mod Flags
+pub mod Held
 pub mod Port
 pub mod Registers

@@ -11,7 +11,8 @@ use Rattle.access.specs.declared.checks.Checks.{Checks}
 use Rattle.access.specs.declared.request.Request.{Request}
 use Rattle.iac.specs.Registers.{registerAt, iisr, rowOf}
 use Rattle.iac.specs.declared.registers.Row.{Row}
-use Rattle.iac.specs.Contents.{stored, withStored}
+use Rattle.iac.specs.Contents.{stored, seen, withStored}
+use Rattle.iac.specs.Held.{held}
 use Rattle.iac.specs.declared.registers.Register.{Register}
 use Rattle.iac.specs.declared.registers.Register.the-variants.{Ier, Isr, Icr, Iisr, Unknown}
 use Rattle.iac.specs.declared.contents.Iac.{Iac}
@@ -47,15 +48,19 @@ checksOf row q =
 unfoldable pub answerOf : Row → ℕ → Request → Answer
 answerOf row old q = answered (checksOf row q) (gives q (readOf row old))
 
+-- the words that a write leaves
+unfoldable pub rewritten : Register → Row → Seen → ℕ → Seen
+rewritten reg row v value = held (row .named) v (wordWritten reg (v .word) value)
+
 -- an access to what it needs of the IAC, by value
 unfoldable pub accessed : Register → Row → Seen → Request → Accessed
 accessed reg row v q =
     let a = answerOf row (v .word) q in
-    record { next = left a v (cond (q .write) (record { word = wordWritten reg (v .word) (q .value) }) v) v; answer = a }
+    record { next = left a v (cond (q .write) (rewritten reg row v (q .value)) v) v; answer = a }
 
 -- what an access leaves; a refusal leaves the registers as they were, and its flag is raised beside (Flags)
-unfoldable pub written : Iac → Register → ℕ → Request → Iac
-written s reg old q = cond (q .write) (withStored s reg (wordWritten reg old (q .value))) s
+unfoldable pub written : Iac → Register → Request → Iac
+written s reg q = cond (q .write) (withStored s reg (rewritten reg (rowOf reg) (seen s reg) (q .value))) s
 
 pub record Stepped : Type 0 where
   pub next : Iac
@@ -64,6 +69,5 @@ pub record Stepped : Type 0 where
 unfoldable pub stepped : Iac → Request → Stepped
 stepped s q =
     let reg = registerAt (q .offset) in
-    let old = stored s reg in
-    let a = answerOf (rowOf reg) old q in
-    record { next = left a s (written s reg old q) s; answer = a }
+    let a = answerOf (rowOf reg) (stored s reg) q in
+    record { next = left a s (written s reg q) s; answer = a }

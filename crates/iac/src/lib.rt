@@ -1,6 +1,7 @@
-// The illegal access controller IAC: flags, their enables, and the interrupt line.
+// The illegal access controller IAC: flags, their enables, and the interrupt line as it is kept.
 pub mod contents;
 mod flags;
+mod held;
 pub mod port;
 pub mod registers;
 

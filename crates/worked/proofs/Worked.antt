@@ -14,7 +14,8 @@ use Rattle.rifsc.specs.Port.{readOf as rifsc-readOf, takes, wordWritten as rifs
 use Rattle.rifsc.specs.Masters.{isMaster, guardingOf, attributesOf, carried}
 use Rattle.rifsc.specs.Peripherals.{exists, filterOf, grants}
 use Rattle.iac.specs.Registers.{registerAt as iac-registerAt, iisr, rowOf as iac-rowOf}
-use Rattle.iac.specs.Contents.{stored as iac-stored, reset as iac-reset}
+use Rattle.iac.specs.Contents.{stored as iac-stored, other as iac-other, seen as iac-seen, withWord as iac-withWord, withStored as iac-withStored, reset as iac-reset}
+use Rattle.iac.specs.Held.{freshOf, recounted, held}
 use Rattle.iac.specs.Port.{readOf as iac-readOf, checksOf as iac-checksOf, answerOf as iac-answerOf, written as iac-written, stepped as iac-stepped}
 use Rattle.iac.specs.Flags.{raise, raised}
 use Rattle.risaf.specs.Guards.{shapeIn, shapeOf}
@@ -89,7 +90,7 @@ hold (x ∷ xs) h = let p = both _ _ h in (holds x resetState (p .0), hold xs (p
 -- ---- the examples, and the wrong readings
 
 passed : (pass worked ≡ true) × (pass readings ≡ true)
-unfolding pass passes same swept worked readings flat sweptMap sweepFrom nextOf boundsOf join pairsOf rightsOf rightsWord masked merged united withBit answered reached rifsc-registerAt ppsr rifsc-rowOf rifsc-stored rifsc-withStored rifsc-seen rifsc-reset rifsc-readOf takes rifsc-wordWritten rifsc-checksOf rifsc-answerOf rifsc-written rifsc-stepped iac-registerAt iisr iac-rowOf iac-stored iac-reset iac-readOf iac-checksOf iac-answerOf iac-written iac-stepped raise raised shapeIn shapeOf regionAt subRegister regionRegister registerAt ofHead ofBase ofSub rowOf withWord reset portIn readOf delegated allowedOf subcfgrWritten wordIn checksOf answerOf accessed stepped decided memoryChecks memoryAnswer recordedFault faulted memoryStepped guardOf withGuard resetState registerStep peripheralStep exists filterOf grants isMaster guardingOf attributesOf carried memoryStep step
+unfolding pass passes same swept worked readings flat sweptMap sweepFrom nextOf boundsOf join pairsOf rightsOf rightsWord masked merged united withBit answered reached rifsc-registerAt ppsr rifsc-rowOf rifsc-stored rifsc-withStored rifsc-seen rifsc-reset rifsc-readOf takes rifsc-wordWritten rifsc-checksOf rifsc-answerOf rifsc-written rifsc-stepped iac-registerAt iisr iac-rowOf iac-stored iac-other iac-seen iac-withWord iac-withStored freshOf recounted held iac-reset iac-readOf iac-checksOf iac-answerOf iac-written iac-stepped raise raised shapeIn shapeOf regionAt subRegister regionRegister registerAt ofHead ofBase ofSub rowOf withWord reset portIn readOf delegated allowedOf subcfgrWritten wordIn checksOf answerOf accessed stepped decided memoryChecks memoryAnswer recordedFault faulted memoryStepped guardOf withGuard resetState registerStep peripheralStep exists filterOf grants isMaster guardingOf attributesOf carried memoryStep step
 passed = (refl, refl)
 
 pub all-hold : AllHold worked

@@ -1,32 +1,19 @@
 use borrow.Author.Needs.{needs}
+use mathlib.Core.Path.{refl}
 use lib.Dec.{lit<}
-use Rattle.iac.specs.Contents.{stored}
-use Rattle.device.specs.Layout.{ierPart, isrPart, stateOf}
-use Rattle.device.proofs.StateLayout.{head-part}
+use Rattle.iac.specs.Contents.{seen}
+use Rattle.device.specs.Layout.{linePart, countPart, stateOf}
+use Rattle.device.proofs.StateLayout.{head-word}
 use Rattle.device.proofs.flags.load_flags.Statement.{statement}
 use Rattle.device.proofs.flags.load_flags.Tie as tie
 
 returns : tie.Need-returns
-unfolding stored stateOf
-returns c = simp (c .before .before .reg .given .1, c .word-in .ensures, head-part (c .before .before .before .before .before .args .state .now) ierPart (lit< tt))
-
-returns-2 : tie.Need-returns-2
-unfolding stored stateOf
-returns-2 c = simp (c .before .before .reg2 .given .1, c .word-in2 .ensures, head-part (c .before .before .before .before .before .args .state .now) isrPart (lit< tt))
-
-returns-3 : tie.Need-returns-3
-unfolding stored stateOf
-returns-3 c = simp (c .before .before .reg3 .given .1, c .word-in3 .ensures, head-part (c .before .before .before .before .before .args .state .now) isrPart (lit< tt))
-
-returns-4 : tie.Need-returns-4
-unfolding stored
-returns-4 c = simp (c .enum-told .given .1)
-
-returns-5 : tie.Need-returns-5
-unfolding stored
-returns-5 c = simp (c .enum-told2 .given .1)
+unfolding seen stateOf
+returns c =
+    let m = c .before .before .before .before .before .args .state .now in
+    simp (c .before .before .load-other .ensures, c .before .before .before .load-word .ensures, head-word m linePart (lit< tt) refl, head-word m countPart (lit< tt) refl)
 
 pub load-flags-spec : {M : Type 1} → statement M
 load-flags-spec =
     tie.close
-    (tie.spec (λ c. search needs) (λ c κs. search needs) (λ c. search needs) (λ c κs. search needs) (λ c. search needs) (λ c κs. search needs) (λ c. search needs) (λ c. search needs) returns returns-2 returns-3 returns-4 returns-5)
+    (tie.spec (λ c κs. search needs) (λ c κs. search needs) (λ c. search needs) (λ c. search needs) returns)

@@ -1,11 +1,10 @@
 use borrow.Author.Needs.{needs}
-use Rattle.iac.specs.Contents.{stored, withStored}
 use Rattle.iac.specs.Flags.{raise}
 use Rattle.device.proofs.flags.raise.Statement.{statement}
 use Rattle.device.proofs.flags.raise.Tie as tie
 
 returns : tie.Need-returns
-unfolding raise stored withStored
+unfolding raise
 returns c =
     let b = c .before .before in
     simp (b .store-flags .ensures, b .before .raise .ensures, b .before .before .before .load-flags .ensures)

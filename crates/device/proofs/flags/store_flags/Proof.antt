@@ -1,35 +1,31 @@
 use borrow.Author.Needs.{needs}
-use mathlib.Core.Path.{refl}
+use mathlib.Core.Path.{refl, ap, _∙_}
 use lib.Dec.{lit<}
-use Rattle.iac.specs.Contents.{withStored}
-use Rattle.device.specs.Layout.{ierPart, isrPart}
-use Rattle.device.proofs.PartWords.{heads-set, ier-stored, isr-stored}
+use lib.ListN.{length-set}
+use Rattle.iac.specs.Contents.{withStored, withHeld}
+use Rattle.device.specs.Layout.{linePart, countPart, stateOf}
+use Rattle.device.specs.State.{State, withIac}
+use Rattle.device.proofs.StateLayout.{heads-none, heads-word, held-stored}
 use Rattle.device.proofs.flags.store_flags.Statement.{statement}
 use Rattle.device.proofs.flags.store_flags.Tie as tie
 
+slice-write-state-2 : tie.Need-slice-write-state-2
+slice-write-state-2 c = simp length-set (search needs)
+
+same-length : tie.Need-same-length
+same-length c = simp length-set (search needs)
+
 returns : tie.Need-returns
+unfolding withStored
 returns c =
-    let s = c .before .before .before .before .before .before .before .before in
-    rw (c .before .before .before .before .before .reg .given .1) (ier-stored _ (s .args .v) (heads-set ierPart _ (s .args .v) (s .pre) (lit< tt) (c .before .before .store-in .ensures)))
-
-returns-2 : tie.Need-returns-2
-unfolding withStored
-returns-2 c = rw (c .enum-told .given .1) refl
-
-returns-3 : tie.Need-returns-3
-returns-3 c =
-    let s = c .before .before .before .before .before .before .before .before in
-    rw (c .before .before .before .before .before .reg2 .given .1) (isr-stored _ (s .args .v) (heads-set isrPart _ (s .args .v) (s .pre) (lit< tt) (c .before .before .store-in2 .ensures)))
-
-returns-4 : tie.Need-returns-4
-unfolding withStored
-returns-4 c = rw (c .enum-told2 .given .1) refl
-
-returns-5 : tie.Need-returns-5
-unfolding withStored
-returns-5 c = rw (c .enum-told3 .given .1) refl
+    let v = c .before .before .before .before .before .args .v in
+    let u = c .before .before .store-word in
+    let m = u .last .0 in
+    held-stored (v .line) (v .count)
+    (heads-word countPart (v .count) (lit< tt) refl (heads-word linePart (v .line) (lit< tt) refl (heads-none m (search needs)) refl) refl)
+    ∙ ap (λ (t : State). withIac t (withHeld (t .iac) (v .line) (v .count))) (u .ensures)
 
 pub store-flags-spec : {M : Type 1} → statement M
 store-flags-spec =
     tie.close
-    (tie.spec (λ c. search needs) (λ c κs. search needs) (λ c. search needs) (λ c. search needs) (λ c κs. search needs) (λ c. search needs) (λ c. search needs) (λ c. search needs) returns returns-2 (λ c. search needs) returns-3 returns-4 returns-5)
+    (tie.spec (λ c. search needs) (λ c. search needs) slice-write-state-2 same-length returns)

@@ -5,7 +5,9 @@ use Rattle.iac.proofs.port.Seen.raise.Tie as tie
 
 returns : tie.Need-returns
 unfolding raised
-returns c = simp (c .with-bit .ensures, ← c .before .before .bit-at .ensures, c .before .if1 .taken)
+returns c =
+    let b = c .before .before .before in
+    simp (c .hold .ensures, c .before .iisr .ensures, c .before .before .with-bit .ensures, ← b .before .bit-at .ensures, b .if1 .taken)
 
 returns-2 : tie.Need-returns-2
 unfolding raised
@@ -14,4 +16,4 @@ returns-2 c = simp (← c .before .bit-at .ensures, c .if1 .left)
 pub raise-spec : {M : Type 1} → statement M
 raise-spec =
     tie.close
-    (tie.spec (λ c κs. search needs) (λ c κs. search needs) returns returns-2)
+    (tie.spec (λ c κs. search needs) (λ c κs. search needs) (λ c. search needs) (λ c κs. search needs) (λ c κs. search needs) returns returns-2)
