@@ -45,7 +45,7 @@ fn words_keep_every_bit() {
 
 #[test]
 fn words_lie_where_the_header_says() {
-    assert_eq!(STATE_WORDS, 1813);
+    assert_eq!(STATE_WORDS, 1815);
     let named = [
         (0, "RIFSC CR"),
         (6, "SECCFGR5"),
@@ -55,19 +55,22 @@ fn words_lie_where_the_header_says() {
         (32, "ATTR12"),
         (38, "IER5"),
         (44, "ISR5"),
-        (45, "RISAF1 CR"),
-        (48, "RISAF1 IADDR"),
-        (49, "RISAF1 region 1 CFGR"),
-        (60, "RISAF1 region 1 B NEST"),
-        (181, "RISAF2 CR"),
-        (45 + 9 * 136, "RISAF11 CR"),
-        (1812, "RISAF14 region 11 B NEST"),
+        (45, "line"),
+        (46, "count"),
+        (47, "RISAF1 CR"),
+        (50, "RISAF1 IADDR"),
+        (51, "RISAF1 region 1 CFGR"),
+        (62, "RISAF1 region 1 B NEST"),
+        (183, "RISAF2 CR"),
+        (47 + 9 * 136, "RISAF11 CR"),
+        (1814, "RISAF14 region 11 B NEST"),
     ];
     for (place, name) in named {
         assert_eq!(word_name(place), name);
     }
     assert_eq!(reset_words()[19], 0x710);
-    assert_eq!(reset_words()[51], 0xFFF);
+    assert_eq!(reset_words()[33..47], [0; 14]);
+    assert_eq!(reset_words()[53], 0xFFF);
 }
 
 #[test]
@@ -120,10 +123,12 @@ fn smallest_case(name: &str) -> Case {
 fn cases_become_small() {
     let most = [
         ("end-exclusive", 1, 8),
-        ("iaesr-overwritten", 2, 1),
+        ("iaesr-overwritten", 2, 3),
         ("caef-forgotten", 1, 0),
         ("map-short", 1, 0),
-        ("line-absent", 1, 2),
+        ("line-recounted", 1, 2),
+        ("count-saturates", 2, 3),
+        ("line-lazy", 1, 2),
         ("guard-unlocked", 1, 1),
         ("diff-unjoined", 1, 0),
     ];

@@ -1,4 +1,4 @@
-//! Arbitrary stored contents: unnamed bits, stored regions, reset, the line.
+//! Arbitrary stored contents: unnamed bits, stored regions, reset.
 
 mod common;
 
@@ -29,6 +29,8 @@ fn with_unnamed_bits_of(mut state: Device, other: &Device) -> Device {
         blend(&mut state.iac.ier[x], other.iac.ier[x], IISR[x]);
         blend(&mut state.iac.isr[x], other.iac.isr[x], IISR[x]);
     }
+    blend(&mut state.iac.line, other.iac.line, 1);
+    blend(&mut state.iac.count, other.iac.count, 0xFF);
     for (guard, from) in state.guards.iter_mut().zip(&other.guards) {
         blend(&mut guard.cr, from.cr, 1);
         blend(&mut guard.iasr, from.iasr, 3);
@@ -136,18 +138,4 @@ fn faults_keep_unnamed_bits() {
     let guard = device.guard(2).unwrap();
     assert_eq!((guard.iaesr, guard.iaddr), (0xFFFF_FFFA, 0x123));
     assert_eq!(guard.iasr, 0xFFFF_FFFE);
-}
-
-#[test]
-fn interrupt_line_needs_flag_and_enable() {
-    let mut device = Device::reset_state();
-    device.iac.isr = [0xFFFF_FFFF; 6];
-    assert!(!device.interrupt_line());
-    device.iac.ier = IISR.map(|present| !present);
-    assert!(!device.interrupt_line());
-    set(&mut device, Block::Iac, 0x004, 0x10);
-    assert!(device.interrupt_line());
-    set(&mut device, Block::Iac, 0x104, 0x10);
-    assert!(!device.interrupt_line());
-    assert_eq!(device.iac.isr[1], 0xFFFF_FFEF);
 }

@@ -1,5 +1,6 @@
 //! Single events, aimed at what a state holds.
 
+use super::flags::flag_event;
 use super::masters::master_access;
 use super::registers::{self, direction};
 use crate::harness::random::Random;
@@ -177,14 +178,15 @@ pub fn block(random: &mut Random) -> Block {
 
 /// Any event but reset, on a state of the right length.
 pub fn event(random: &mut Random, words: &[u32]) -> Event {
-    match random.below(10) {
-        0..=3 => {
+    match random.below(21) {
+        0..=7 => {
             let block = block(random);
             Event::Register(registers::access(random, block))
         }
-        4..=6 => Event::Memory(memory_access(random, words)),
-        7 | 8 => Event::Master(master_access(random, words)),
-        _ => Event::Peripheral(peripheral_access(random)),
+        8..=13 => Event::Memory(memory_access(random, words)),
+        14..=17 => Event::Master(master_access(random, words)),
+        18 | 19 => Event::Peripheral(peripheral_access(random)),
+        _ => flag_event(random, words),
     }
 }
 

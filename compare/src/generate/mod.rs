@@ -3,6 +3,7 @@
 pub mod aim;
 pub mod damage;
 pub mod diffs;
+pub mod flags;
 pub mod lent;
 pub mod lines;
 pub mod masters;

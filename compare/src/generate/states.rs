@@ -1,8 +1,9 @@
 //! Random contents of a state's memory.
 
+use super::flags::hold;
 use crate::harness::random::Random;
 use crate::harness::words::{
-    guard_at, region_at, reset_words, FIRST_GUARD, REGION_WORDS, RIFSC_WORDS, STATE_WORDS,
+    guard_at, region_at, reset_words, IER_AT, LINE_AT, REGION_WORDS, STATE_WORDS,
 };
 use crate::model::{Shape, GUARDS, SHAPES};
 
@@ -23,10 +24,11 @@ pub fn dense_state(random: &mut Random) -> Vec<u32> {
         words[0] &= !1;
         words[19] &= !1;
     }
-    // Few flags and enables, so that the line is down at times.
-    for word in &mut words[RIFSC_WORDS..FIRST_GUARD] {
+    // Few flags and enables, so that few are both.
+    for word in &mut words[IER_AT..LINE_AT] {
         *word &= random.word() & random.word() & random.word();
     }
+    hold(random, &mut words);
     for place in 0..GUARDS {
         if random.flag() {
             words[guard_at(place)] &= !1;

@@ -1,6 +1,8 @@
 //! Names for the words of a state, for reports.
 
-use super::words::{FIRST_GUARD, GUARD_HEAD, GUARD_WORDS, REGION_WORDS, STATE_WORDS};
+use super::words::{
+    COUNT_AT, FIRST_GUARD, GUARD_HEAD, GUARD_WORDS, LINE_AT, REGION_WORDS, STATE_WORDS,
+};
 use crate::model::SHAPES;
 
 const REGION_NAMES: [&str; REGION_WORDS] = [
@@ -18,7 +20,9 @@ pub fn word_name(place: usize) -> String {
         19 => "RIMC_CR".to_string(),
         20..=32 => format!("ATTR{}", place - 20),
         33..=38 => format!("IER{}", place - 33),
-        39..FIRST_GUARD => format!("ISR{}", place - 39),
+        39..LINE_AT => format!("ISR{}", place - 39),
+        LINE_AT => "line".to_string(),
+        COUNT_AT => "count".to_string(),
         FIRST_GUARD..STATE_WORDS => guard_word_name(place - FIRST_GUARD),
         _ => "past the state".to_string(),
     }

@@ -2,9 +2,14 @@
 
 use crate::model::{Device, Guard, Region, Subregion, GUARDS, MASTERS, REGIONS_STORED};
 
-/// RIFSC and IAC come first, then the guards.
+/// RIFSC comes first, then IAC, then the guards.
 pub const RIFSC_WORDS: usize = 1 + 6 + 6 + 6 + 1 + MASTERS;
-pub const FIRST_GUARD: usize = RIFSC_WORDS + 6 + 6;
+/// IAC is IER, ISR, and the line and the count that are held.
+pub const IER_AT: usize = RIFSC_WORDS;
+pub const ISR_AT: usize = IER_AT + 6;
+pub const LINE_AT: usize = ISR_AT + 6;
+pub const COUNT_AT: usize = LINE_AT + 1;
+pub const FIRST_GUARD: usize = COUNT_AT + 1;
 /// A guard is CR, IASR, IAESR, IADDR and its regions.
 pub const GUARD_HEAD: usize = 4;
 pub const REGION_WORDS: usize = 12;
@@ -33,7 +38,8 @@ pub fn device_of(words: &[u32]) -> Device {
     device.rifsc.rimc_cr = rifsc[19];
     device.rifsc.attr.copy_from_slice(&rifsc[20..]);
     device.iac.ier.copy_from_slice(&iac[..6]);
-    device.iac.isr.copy_from_slice(&iac[6..]);
+    device.iac.isr.copy_from_slice(&iac[6..12]);
+    [device.iac.line, device.iac.count] = [iac[12], iac[13]];
     let chunks = guards.chunks_exact(GUARD_WORDS);
     for (guard, words) in device.guards.iter_mut().zip(chunks) {
         load_guard(guard, words);
@@ -73,7 +79,8 @@ pub fn store(device: &Device, words: &mut [u32]) {
     rifsc[19] = device.rifsc.rimc_cr;
     rifsc[20..].copy_from_slice(&device.rifsc.attr);
     iac[..6].copy_from_slice(&device.iac.ier);
-    iac[6..].copy_from_slice(&device.iac.isr);
+    iac[6..12].copy_from_slice(&device.iac.isr);
+    iac[12..].copy_from_slice(&[device.iac.line, device.iac.count]);
     let chunks = guards.chunks_exact_mut(GUARD_WORDS);
     for (guard, words) in device.guards.iter().zip(chunks) {
         let (head, rest) = words.split_at_mut(GUARD_HEAD);

@@ -51,9 +51,9 @@ impl Device {
         }
     }
 
-    /// Whether some flag and its enable are both 1.
+    /// The interrupt line as it is held.
     pub fn interrupt_line(&self) -> bool {
-        self.iac.line()
+        self.iac.line_up()
     }
 
     /// The map of a guard's window.

@@ -1,4 +1,5 @@
-//! IAC: one flag and one enable for each source of illegal accesses.
+//! IAC: one flag and one enable for each source of illegal accesses, and the
+//! interrupt line, which is held.
 
 use super::answer::Answer;
 use super::bits::{bit, blend};
@@ -19,10 +20,18 @@ pub const RIFSC_INDEX: u32 = 158;
 /// Index raised by a refused IAC register access; guard n raises n more.
 pub const IAC_INDEX: u32 = 138;
 
+const LINE: u32 = 1;
+const COUNT: u32 = 0xFF;
+
 #[derive(Clone, Debug, PartialEq, Eq)]
 pub struct Iac {
     pub ier: [u32; 6],
     pub isr: [u32; 6],
+    /// Bit 0 is the interrupt line.
+    pub line: u32,
+    /// Bits 7:0 are the number of flags that are set and enabled, as it was
+    /// counted so far.
+    pub count: u32,
 }
 
 #[derive(Clone, Copy)]
@@ -52,6 +61,8 @@ impl Iac {
         Iac {
             ier: [0; 6],
             isr: [0; 6],
+            line: 0,
+            count: 0,
         }
     }
 
@@ -59,13 +70,33 @@ impl Iac {
     pub(crate) fn raise(&mut self, index: u32) {
         let (word, place) = ((index / 32) as usize, index % 32);
         if bit(IISR[word], place) {
-            self.isr[word] |= 1 << place;
+            self.change(|iac| iac.isr[word] |= 1 << place);
         }
     }
 
-    /// Up when some present flag and its enable are both 1.
-    pub(crate) fn line(&self) -> bool {
-        (0..IISR.len()).any(|x| self.isr[x] & self.ier[x] & IISR[x] != 0)
+    /// How many present flags are set and enabled.
+    pub(crate) fn fresh_count(&self) -> u32 {
+        let both = |x: usize| self.isr[x] & self.ier[x] & IISR[x];
+        (0..IISR.len()).map(|x| both(x).count_ones()).sum()
+    }
+
+    /// Changes flags or enables. If a bit of them is another afterwards, the
+    /// count moves as a fresh count does and the line goes by it.
+    fn change(&mut self, change: impl FnOnce(&mut Iac)) {
+        let before = self.clone();
+        change(self);
+        if *self == before {
+            return;
+        }
+        let counted = self.count.wrapping_add(self.fresh_count());
+        let count = counted.wrapping_sub(before.fresh_count()) & COUNT;
+        self.count = blend(self.count, count, COUNT);
+        self.line = blend(self.line, u32::from(count != 0), LINE);
+    }
+
+    /// Whether the line is held up, whatever the flags are.
+    pub(crate) fn line_up(&self) -> bool {
+        self.line & LINE != 0
     }
 
     /// A register access at a word-aligned offset.
@@ -94,8 +125,8 @@ impl Iac {
 
     fn write(&mut self, register: Register, data: u32) -> Answer {
         match register {
-            Register::Ier(x) => self.ier[x] = blend(self.ier[x], data, IISR[x]),
-            Register::Icr(x) => self.isr[x] &= !(data & IISR[x]),
+            Register::Ier(x) => self.change(|iac| iac.ier[x] = blend(iac.ier[x], data, IISR[x])),
+            Register::Icr(x) => self.change(|iac| iac.isr[x] &= !(data & IISR[x])),
             Register::Isr(_) | Register::Iisr(_) => return Answer::NoRegister,
         }
         Answer::Done(0)

@@ -1,4 +1,4 @@
-//! Wrong rules for the interrupt line, maps and lookups.
+//! Wrong rules for maps and lookups.
 
 use super::{Change, Mutant};
 use crate::harness::modelled::{Rules, MODEL};
@@ -13,14 +13,6 @@ const fn mutant(name: &'static str, wrong: &'static str, rules: Rules) -> Mutant
 }
 
 pub const MUTANTS: &[Mutant] = &[
-    mutant(
-        "line-absent",
-        "flags that are not present raise the line",
-        Rules {
-            line: line_absent,
-            ..MODEL
-        },
-    ),
     mutant(
         "map-short",
         "the last row of a map ends one early",
@@ -62,11 +54,6 @@ pub const MUTANTS: &[Mutant] = &[
         },
     ),
 ];
-
-fn line_absent(device: &Device) -> bool {
-    let mut pairs = device.iac.isr.iter().zip(&device.iac.ier);
-    pairs.any(|(flags, enables)| flags & enables != 0)
-}
 
 fn map_short(device: &Device, guard: u32) -> Result<Vec<Span>, Answer> {
     let mut spans = device.map(guard)?;

@@ -5,6 +5,7 @@
 //! state or the answer around the right rule.
 
 mod diffs;
+mod held;
 mod lent;
 mod lines;
 mod locks;
@@ -53,6 +54,7 @@ pub fn all() -> Vec<Mutant> {
         masters::MUTANTS,
         registers::MUTANTS,
         locks::MUTANTS,
+        held::MUTANTS,
         lent::MUTANTS,
         diffs::MUTANTS,
         lines::MUTANTS,

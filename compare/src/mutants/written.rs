@@ -1,6 +1,6 @@
-//! What an event writes to.
+//! What an event writes to, and what it raises.
 
-use crate::model::{Block, Device, Direction, Event, RegisterAccess, Subregion};
+use crate::model::{Answer, Block, Device, Direction, Event, RegisterAccess, Subregion};
 
 /// The write to a register that an event is.
 pub fn write_of(event: &Event) -> Option<&RegisterAccess> {
@@ -8,6 +8,29 @@ pub fn write_of(event: &Event) -> Option<&RegisterAccess> {
         Event::Register(access) if access.direction == Direction::Write => Some(access),
         _ => None,
     }
+}
+
+/// The done write to IER or ICR that an event is.
+pub fn iac_written(event: &Event, answer: Answer) -> Option<&RegisterAccess> {
+    let done = answer == Answer::Done(0);
+    write_of(event).filter(|access| done && access.block == Block::Iac)
+}
+
+/// The word and the bit of the flag, present or not, that a refusal raises.
+pub fn raised_by(event: &Event, answer: Answer) -> Option<(usize, u32)> {
+    let index = match event {
+        _ if answer != Answer::Refused => return None,
+        Event::Reset => return None,
+        Event::Peripheral(access) => access.peripheral,
+        Event::Memory(access) => 138 + access.guard,
+        Event::Master(access) => 138 + access.guard,
+        Event::Register(access) => match access.block {
+            Block::Rifsc => 158,
+            Block::Iac => 138,
+            Block::Risaf(guard) => 138 + guard,
+        },
+    };
+    Some((index as usize / 32, 1 << (index % 32)))
 }
 
 /// A guard, a region from 0 and a place in it.

@@ -2,6 +2,7 @@
 
 use super::Verdict;
 use crate::generate::aim::{event, sweep};
+use crate::generate::flags::{few_flags, flag_event, hold};
 use crate::generate::lent::{map_of, no_such};
 use crate::generate::states::{dense_state, random_state};
 use crate::generate::story::{Step, Story};
@@ -9,7 +10,7 @@ use crate::harness::call::Call;
 use crate::harness::case::Case;
 use crate::harness::duel::Duel;
 use crate::harness::random::Random;
-use crate::harness::words::{reset_words, FIRST_GUARD, RIFSC_WORDS};
+use crate::harness::words::reset_words;
 use crate::model::{Event, GUARDS};
 
 /// Any call that has a state and no lent memory; mostly an event.
@@ -72,6 +73,9 @@ pub fn reached(duel: &mut Duel, random: &mut Random, amount: u64) -> Verdict {
                 Step::Map(guard) => map_of(random, guard),
             };
             duel.step(call)?;
+            if random.one_in(50) {
+                duel.step(Call::Line)?;
+            }
         }
     }
     Ok(format!(
@@ -80,17 +84,22 @@ pub fn reached(duel: &mut Duel, random: &mut Random, amount: u64) -> Verdict {
     ))
 }
 
-/// The interrupt line, on few flags and few enables, often the same.
+/// The interrupt line, on few flags and few enables, as it is held and as it
+/// is after raises and writes to IER and ICR.
 pub fn line(duel: &mut Duel, random: &mut Random, amount: u64) -> Verdict {
+    const EACH: u64 = 10;
+    let states = amount.div_ceil(EACH);
     let mut state = random_state(random);
-    for _ in 0..amount {
-        let (enable, flag) = (random.below(192), random.below(192));
-        let flag = if random.flag() { enable } else { flag };
-        state[RIFSC_WORDS..FIRST_GUARD].fill(0);
-        state[RIFSC_WORDS + enable / 32] |= 1 << (enable % 32);
-        state[RIFSC_WORDS + 6 + flag / 32] |= 1 << (flag % 32);
+    for _ in 0..states {
+        few_flags(random, &mut state);
+        hold(random, &mut state);
         duel.load(state.clone());
         duel.step(Call::Line)?;
+        for _ in 0..EACH {
+            let event = flag_event(random, duel.words());
+            duel.step(Call::Event(event))?;
+            duel.step(Call::Line)?;
+        }
     }
-    Ok(format!("{amount} states"))
+    Ok(format!("{states} states, {} events", states * EACH))
 }

@@ -37,7 +37,7 @@ pub const PARTS: [Part; 9] = [
     part("random", 300, accesses::random),
     part("dense", 250, accesses::dense),
     part("reached", 300, accesses::reached),
-    part("line", 10, accesses::line),
+    part("line", 50, accesses::line),
     part("maps", 10, memory::maps),
     part("lookups", 50, memory::lookups),
     part("batches", 140, memory::batches),

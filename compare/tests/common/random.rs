@@ -83,6 +83,7 @@ impl Random {
         ] {
             words.fill_with(|| self.word());
         }
+        (iac.line, iac.count) = (self.word(), self.word());
         for guard in &mut device.guards {
             guard.cr = self.word();
             guard.iasr = self.word();
