@@ -73,9 +73,10 @@ fn item(
     }
 }
 
-fn memory(name: &'static str, words: &[u32], cid: u32) -> Item {
+/// A call for each access. Its time is divided by the count.
+fn calls(name: &'static str, count: usize, words: &[u32], list: Vec<MemoryAccess>) -> Item {
     let (mut state, mut device) = (words.to_vec(), device_of(words));
-    let (list, events) = (accesses(SINGLE, cid), accesses(SINGLE, cid));
+    let events = list.clone();
     let proved = move || {
         for access in &list {
             black_box(linked::memory(&mut state, access));
@@ -86,7 +87,11 @@ fn memory(name: &'static str, words: &[u32], cid: u32) -> Item {
             black_box(device.apply(&Event::Memory(*access)));
         }
     };
-    item(name, SINGLE, proved, second)
+    item(name, count, proved, second)
+}
+
+fn memory(name: &'static str, words: &[u32], cid: u32) -> Item {
+    calls(name, SINGLE, words, accesses(SINGLE, cid))
 }
 
 fn batch(name: &'static str, words: &[u32], cid: u32) -> Item {
@@ -143,8 +148,7 @@ fn map(name: &'static str, words: &[u32]) -> Item {
 
 /// Every kind of asking at the start of every row.
 fn asked(name: &'static str, words: &[u32]) -> Item {
-    let (mut state, mut device) = (words.to_vec(), device_of(words));
-    let spans = device.map(GUARD).expect("there is the guard");
+    let spans = device_of(words).map(GUARD).expect("there is the guard");
     let every = |span: Span| {
         (0..64).map(move |kind: u32| MemoryAccess {
             guard: GUARD,
@@ -156,19 +160,7 @@ fn asked(name: &'static str, words: &[u32]) -> Item {
             secure: kind >> 5 == 1,
         })
     };
-    let list: Vec<MemoryAccess> = spans.into_iter().flat_map(every).collect();
-    let events = list.clone();
-    let proved = move || {
-        for access in &list {
-            black_box(linked::memory(&mut state, access));
-        }
-    };
-    let second = move || {
-        for access in &events {
-            black_box(device.apply(&Event::Memory(*access)));
-        }
-    };
-    item(name, 1, proved, second)
+    calls(name, 1, words, spans.into_iter().flat_map(every).collect())
 }
 
 fn numbers_of(words: &[u32]) -> Vec<u64> {
