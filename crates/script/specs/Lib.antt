@@ -4,9 +4,9 @@
 --     Command     the lines: `reset`, `reg`, `per`, `mem`, `dma`, `map`; any other is bad
 --     Examples    the document's sample read, and lines that are bad
 -- What only code and proofs go by:
---     Starts      the table of where a line's fields start
+--     Places      where a line's fields start and end
 pub mod Command
 pub mod Examples
 pub mod Fields
 pub mod Numbers
-pub mod Starts
+pub mod Places

@@ -3,19 +3,16 @@ use crate::events::memory;
 use crate::events::peripheral;
 use crate::events::register;
 use crate::fields::LINE_MOST;
-use crate::fields::STARTS;
-use crate::fields::cut;
 use crate::fields::field_at;
+use crate::fields::field_end;
 use crate::fields::is;
 use crate::numbers::Number;
 use crate::numbers::decimal_at;
 use device::Event;
 use risaf::GuardNumber;
 ghost use mathlib.Core.Path.{_≡_};
-ghost use Prim.Native.Nat.{_<_};
-ghost use lib.ListN.{length};
 ghost use Rattle.script.specs.Fields.{fieldsOf};
-ghost use Rattle.script.specs.Starts.{Cut};
+ghost use Rattle.script.specs.Places.{Starts};
 ghost use Rattle.script.specs.Command.{commandIn, commandOf, mapLine};
 
 // What a line asks for.
@@ -25,47 +22,49 @@ pub enum Command {
     Bad,
 }
 
-// `map` guard
-fn map(line: &[u8], starts: &[u8; STARTS], n: usize) -> Command
-    requires { ⌜ Cut (now line) (now starts) × (n ≡ length (fieldsOf (now line))) ⌝ }
+// `map` guard, from the field behind the keyword on
+fn map(line: &[u8], from: usize) -> Command
+    requires { ⌜ Starts (now line) (fieldsOf (now line)) 1 from ⌝ }
     ensures { λ r. ⌜ r ≡ mapLine (fieldsOf (now (line .entry))) ⌝ }
 {
-    if n != 2 {
-        return Command::Bad;
-    }
-    let Number::Value(guard) = decimal_at(line, starts, 1) else {
+    let end = field_end(line, from);
+    let Number::Value(guard) = decimal_at(line, from, end) else {
         return Command::Bad;
     };
+    if line.len() != end {
+        return Command::Bad;
+    }
     Command::Map(GuardNumber(guard))
 }
 
-// By the keyword, the first of the n fields.
-fn by_keyword(line: &[u8], starts: &[u8; STARTS], n: usize) -> Command
-    requires { ⌜ Cut (now line) (now starts) × (n ≡ length (fieldsOf (now line))) ⌝ }
+// By the keyword, the first field.
+fn by_keyword(line: &[u8]) -> Command
     ensures { λ r. ⌜ r ≡ commandIn (fieldsOf (now (line .entry))) ⌝ }
 {
-    let word = field_at(line, starts, 0);
+    let end = field_end(line, 0);
+    let word = field_at(line, 0, end);
+    let next = end + 1;
     if is(word, b"reset") {
-        return if n == 1 {
+        return if line.len() == end {
             Command::Event(Event::Reset)
         } else {
             Command::Bad
         };
     }
     if is(word, b"reg") {
-        return register(line, starts, n);
+        return register(line, next);
     }
     if is(word, b"per") {
-        return peripheral(line, starts, n);
+        return peripheral(line, next);
     }
     if is(word, b"mem") {
-        return memory(line, starts, n);
+        return memory(line, next);
     }
     if is(word, b"dma") {
-        return master(line, starts, n);
+        return master(line, next);
     }
     if is(word, b"map") {
-        return map(line, starts, n);
+        return map(line, next);
     }
     Command::Bad
 }
@@ -77,7 +76,5 @@ pub fn read_line(line: &[u8]) -> Command
     if LINE_MOST < line.len() {
         return Command::Bad;
     }
-    let mut starts = [0u8; STARTS];
-    let n = cut(line, &mut starts);
-    by_keyword(line, &starts, n)
+    by_keyword(line)
 }

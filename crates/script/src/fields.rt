@@ -1,48 +1,43 @@
 ghost use mathlib.Core.Path.{_≡_};
-ghost use Prim.Native.Nat.{_≤_, _<_};
-ghost use lib.ListN.{length};
-ghost use Rattle.script.specs.Fields.{fieldAt, fieldsOf, lineMost, same};
-ghost use Rattle.script.specs.Starts.{Cut, entries};
+ghost use Rattle.script.specs.Fields.{same};
+ghost use Rattle.script.specs.Places.{endFrom, endsAt, fieldFrom};
 
 // The most bytes of a line.
 pub(crate) const LINE_MOST: usize = 64;
 
-// The entries of the table of starts: a line of tabs has a field more than bytes, and the line's end follows.
-pub(crate) const STARTS: usize = LINE_MOST + 2;
-
-// Fills the table with the place where each field starts, and then one past the line's end. The count of fields.
-pub(crate) fn cut(line: &[u8], starts: &mut [u8; STARTS]) -> usize
-    requires { ⌜ (length (now line) ≤ lineMost) × (length (now starts) ≡ entries) ⌝ }
-    ensures { λ r. ⌜ (r ≡ length (fieldsOf (now (line .entry)))) × Cut (now (line .entry)) (now (starts .exit)) ⌝ }
+// Where the field that starts at `from` ends: at a tab, or at the line's end.
+pub(crate) fn field_end(line: &[u8], from: usize) -> usize
+    ensures { λ r. ⌜ r ≡ endFrom (now (line .entry)) from ⌝ }
 {
-    starts[0] = 0;
-    let mut n = 1;
-    let mut i = 0;
+    let mut i = from;
     while i < line.len() {
         if line[i] == b'\t' {
-            starts[n] = (i + 1) as u8;
-            n += 1;
+            return i;
         }
         i += 1;
     }
-    starts[n] = (i + 1) as u8;
-    n
+    i
 }
 
-fn wide(x: u8) -> usize
-    ensures { λ r. ⌜ r ≡ x ⌝ }
+// Whether a field may end at that place.
+pub(crate) fn ends(line: &[u8], place: usize) -> bool
+    ensures { λ r. ⌜ r ≡ endsAt (now (line .entry)) place ⌝ }
 {
-    x as usize
+    if place < line.len() {
+        return line[place] == b'\t';
+    }
+    place == line.len()
 }
 
-// Field k, as a part of the line.
-pub(crate) fn field_at<'a>(line: &'a [u8], starts: &[u8; STARTS], k: usize) -> &'a [u8]
-    requires { ⌜ Cut (now line) (now starts) × (k < length (fieldsOf (now line))) ⌝ }
-    ensures { λ r. ⌜ now r ≡ fieldAt (fieldsOf (now (line .entry))) k ⌝ }
+// The field from one place to the other, as a part of the line; past the line's end it is empty.
+pub(crate) fn field_at<'a>(line: &'a [u8], from: usize, end: usize) -> &'a [u8]
+    requires { ⌜ end ≡ endFrom (now line) from ⌝ }
+    ensures { λ r. ⌜ now r ≡ fieldFrom (now (line .entry)) from ⌝ }
 {
-    let a = wide(starts[k]);
-    let e = wide(starts[k + 1]) - 1;
-    &line[a..e]
+    if line.len() < end {
+        return &line[..0];
+    }
+    &line[from..end]
 }
 
 // Whether a field is the keyword.

@@ -1,13 +1,22 @@
-use crate::fields::STARTS;
+use crate::fields::ends;
 use crate::fields::field_at;
 use device::Operation;
 ghost use mathlib.Core.Path.{_≡_};
 ghost use mathlib.Core.Bool.{true};
-ghost use Prim.Native.Nat.{_<_};
+ghost use Prim.Native.Nat.{_≤_, _<_, suc};
 ghost use lib.ListN.{length};
-ghost use Rattle.script.specs.Fields.{fieldAt, fieldsOf};
-ghost use Rattle.script.specs.Starts.{Cut};
+ghost use Rattle.script.specs.Fields.{tab};
+ghost use Rattle.script.specs.Places.{endFrom, fieldFrom};
 ghost use Rattle.script.specs.Numbers.{decimalOf, digit, eitherOf, hexOf, isHex, operationOf};
+
+// The digits of a hexadecimal number.
+const HEX_DIGITS: usize = 8;
+
+// A hexadecimal number and the tab behind it.
+pub(crate) const HEX_STEP: usize = HEX_DIGITS + 1;
+
+// A letter and the tab behind it.
+pub(crate) const LETTER_STEP: usize = 2;
 
 // The most that a decimal number may be.
 const NUMBER_MOST: u64 = 4294967295;
@@ -119,32 +128,44 @@ fn operation(s: &[u8]) -> Action
     }
 }
 
-// ---- the reading of field k of a line
+// ---- the reading of the field that starts at `from`
 
-pub(crate) fn hex_at(line: &[u8], starts: &[u8; STARTS], k: usize) -> Number
-    requires { ⌜ Cut (now line) (now starts) × (k < length (fieldsOf (now line))) ⌝ }
-    ensures { λ r. ⌜ r ≡ hexOf (fieldAt (fieldsOf (now (line .entry))) k) ⌝ }
+pub(crate) fn hex_at(line: &[u8], from: usize) -> Number
+    requires { ⌜ from ≤ suc (length (now line)) ⌝ }
+    ensures { λ r. ⌜ r ≡ hexOf (fieldFrom (now (line .entry)) from) ⌝ }
 {
-    hex(field_at(line, starts, k))
+    let end = from + HEX_DIGITS;
+    if !ends(line, end) {
+        return Number::NoNumber;
+    }
+    hex(&line[from..end])
 }
 
-pub(crate) fn decimal_at(line: &[u8], starts: &[u8; STARTS], k: usize) -> Number
-    requires { ⌜ Cut (now line) (now starts) × (k < length (fieldsOf (now line))) ⌝ }
-    ensures { λ r. ⌜ r ≡ decimalOf (fieldAt (fieldsOf (now (line .entry))) k) ⌝ }
+pub(crate) fn decimal_at(line: &[u8], from: usize, end: usize) -> Number
+    requires { ⌜ end ≡ endFrom (now line) from ⌝ }
+    ensures { λ r. ⌜ r ≡ decimalOf (fieldFrom (now (line .entry)) from) ⌝ }
 {
-    decimal(field_at(line, starts, k))
+    decimal(field_at(line, from, end))
 }
 
-pub(crate) fn either_at(line: &[u8], starts: &[u8; STARTS], k: usize, this: u8, that: u8) -> Choice
-    requires { ⌜ Cut (now line) (now starts) × (k < length (fieldsOf (now line))) ⌝ }
-    ensures { λ r. ⌜ r ≡ eitherOf this that (fieldAt (fieldsOf (now (line .entry))) k) ⌝ }
+pub(crate) fn either_at(line: &[u8], from: usize, this: u8, that: u8) -> Choice
+    requires { ⌜ (from ≤ suc (length (now line))) × (tab < this) × (tab < that) ⌝ }
+    ensures { λ r. ⌜ r ≡ eitherOf this that (fieldFrom (now (line .entry)) from) ⌝ }
 {
-    either(field_at(line, starts, k), this, that)
+    let end = from + 1;
+    if !ends(line, end) {
+        return Choice::Neither;
+    }
+    either(&line[from..end], this, that)
 }
 
-pub(crate) fn operation_at(line: &[u8], starts: &[u8; STARTS], k: usize) -> Action
-    requires { ⌜ Cut (now line) (now starts) × (k < length (fieldsOf (now line))) ⌝ }
-    ensures { λ r. ⌜ r ≡ operationOf (fieldAt (fieldsOf (now (line .entry))) k) ⌝ }
+pub(crate) fn operation_at(line: &[u8], from: usize) -> Action
+    requires { ⌜ from ≤ suc (length (now line)) ⌝ }
+    ensures { λ r. ⌜ r ≡ operationOf (fieldFrom (now (line .entry)) from) ⌝ }
 {
-    operation(field_at(line, starts, k))
+    let end = from + 1;
+    if !ends(line, end) {
+        return Action::NoAction;
+    }
+    operation(&line[from..end])
 }

@@ -1,24 +1,35 @@
 -- `script::command::by_keyword` meets its contract: the keywords compared so far leave the later lines.
+use borrow.Author.Needs.{needs}
 use mathlib.Core.List.{List}
 use mathlib.Core.Path.{_≡_, refl, sym, ap, _∙_}
-use Prim.Native.Nat.{ℕ}
+use Prim.Native.Nat.{ℕ, _+_}
+use native.Mathlib.Omega.{arith}
 use lib.ListN.{drop}
 use Rattle.script.specs.Fields.{fieldsOf}
 use Rattle.script.specs.Command.{byKeyword, commandIn, linesOf, resetLine}
-use Rattle.script.proofs.Cuts.{some-field}
-use Rattle.script.proofs.Lines.{its-count, other-count, its-keyword, other-keyword, told}
+use Rattle.script.specs.Places.{Starts}
+use Rattle.script.proofs.Lines.{its-keyword, other-keyword, told}
+use Rattle.script.proofs.Places.{its-count, other-count}
+use Rattle.script.proofs.Readings.{first-next, first-word}
 use Rattle.script.proofs.command.by_keyword.Statement.{statement}
 use Rattle.script.proofs.command.by_keyword.Tie as tie
 
+abbrev line : tie.After-field-at → List ℕ
+line c = c .before .before .before .args .line .now
+
 abbrev fields : tie.After-field-at → List (List ℕ)
-fields c = fieldsOf (c .before .before .args .line .now)
+fields c = fieldsOf (line c)
+
+-- the field behind the keyword
+second : (c : tie.After-field-at) → Starts (line c) (fields c) 1 (c .before .field-end .result + 1)
+second c = first-next (line c) _ (c .before .field-end .ensures)
 
 -- the line is none of the first k
 abbrev Past : ℕ → tie.After-field-at → Type 0
 Past k c = commandIn (fields c) ≡ byKeyword (c .field-at .result .now) (drop k (linesOf (fields c)))
 
 past0 : (c : tie.After-field-at) → Past 0 c
-past0 c = ap (λ (w : List ℕ). byKeyword w (linesOf (fields c))) (sym (c .field-at .ensures))
+past0 c = ap (λ (w : List ℕ). byKeyword w (linesOf (fields c))) (sym (c .field-at .ensures ∙ first-word (line c)))
 
 past1 : (c : tie.Else1) → Past 1 (c .before .before .before)
 unfolding linesOf
@@ -44,24 +55,21 @@ past6 : (c : tie.Else7) → Past 6 (c .before .before .before .before .before .b
 unfolding linesOf
 past6 c = past5 (c .before .before .before) ∙ other-keyword _ _ _ (told (c .before .is6 .ensures) (c .if7 .left))
 
-field-at-requires : tie.Need-field-at-requires
-field-at-requires c κs = (c .before .pre .0, some-field _)
-
 returns : tie.Need-returns
 unfolding linesOf resetLine
 returns c =
+    let f = c .before .before .before .before in
     sym
-    (past0 (c .before .before .before .before)
-    ∙ its-keyword _ _ _ (told (c .before .before .is .ensures) (c .before .if1 .taken))
-    ∙ rw (its-count 1 _ (c .before .before .before .before .before .before .pre .1) (c .if2 .taken)))
+    (past0 f ∙ its-keyword _ _ _ (told (c .before .before .is .ensures) (c .before .if1 .taken)) ∙ rw (its-count (second f) (omega arith)))
 
 returns-2 : tie.Need-returns-2
 unfolding linesOf resetLine
 returns-2 c =
+    let f = c .before .before .before .before in
     sym
-    (past0 (c .before .before .before .before)
+    (past0 f
     ∙ its-keyword _ _ _ (told (c .before .before .is .ensures) (c .before .if1 .taken))
-    ∙ rw (other-count 1 _ (c .before .before .before .before .before .before .pre .1) (c .if2 .left)))
+    ∙ rw (other-count (second f) (λ e. c .if2 .left (omega arith))))
 
 returns-3 : tie.Need-returns-3
 unfolding linesOf
@@ -100,13 +108,10 @@ returns-8 c = sym (past6 c)
 pub by-keyword-spec : {M : Type 1} → statement M
 by-keyword-spec =
     tie.close
-    (tie.spec field-at-requires (λ c. refl) (λ c κs. tt) returns returns-2 (λ c. refl) (λ c κs. tt)
-    (λ c κs. c .before .before .before .before .before .before .before .before .pre) returns-3 (λ c. refl) (λ c κs. tt)
-    (λ c κs. c .before .before .before .before .before .before .before .before .before .before .before .pre) returns-4
-    (λ c. refl) (λ c κs. tt)
-    (λ c κs. c .before .before .before .before .before .before .before .before .before .before .before .before .before .before .pre)
-    returns-5 (λ c. refl) (λ c κs. tt)
-    (λ c κs. c .before .before .before .before .before .before .before .before .before .before .before .before .before .before .before .before .before .pre)
-    returns-6 (λ c. refl) (λ c κs. tt)
-    (λ c κs. c .before .before .before .before .before .before .before .before .before .before .before .before .before .before .before .before .before .before .before .before .pre)
-    returns-7 returns-8)
+    (tie.spec (λ c κs. search needs) (λ c κs. c .field-end .ensures) (λ c. omega (arith, second c .within)) (λ c. refl) (λ c κs. tt) returns returns-2
+    (λ c. refl) (λ c κs. tt) (λ c κs. second (c .before .before .before .before .before .before)) returns-3
+    (λ c. refl) (λ c κs. tt) (λ c κs. second (c .before .before .before .before .before .before .before .before .before)) returns-4
+    (λ c. refl) (λ c κs. tt) (λ c κs. second (c .before .before .before .before .before .before .before .before .before .before .before .before)) returns-5
+    (λ c. refl) (λ c κs. tt) (λ c κs. second (c .before .before .before .before .before .before .before .before .before .before .before .before .before .before .before)) returns-6
+    (λ c. refl) (λ c κs. tt) (λ c κs. second (c .before .before .before .before .before .before .before .before .before .before .before .before .before .before .before .before .before .before)) returns-7
+    returns-8)

@@ -12,9 +12,9 @@ returns c = rw (lt-leb _ lineMost (c .if1 .taken))
 
 returns-2 : tie.Need-returns-2
 unfolding commandOf
-returns-2 c = rw (le-leb _ lineMost (c .before .before .before .before .if1 .left)) (c .by-keyword .ensures)
+returns-2 c = rw (le-leb _ lineMost (c .before .if1 .left)) (c .by-keyword .ensures)
 
 pub read-line-spec : {M : Type 1} → statement M
 read-line-spec =
     tie.close
-    (tie.spec returns (λ c κs. search needs) (λ c κs. search needs) returns-2)
+    (tie.spec returns (λ c κs. search needs) returns-2)

@@ -1,64 +1,98 @@
 -- `script::events::peripheral` meets its contract: each field read so far says how the line goes on.
 use borrow.Author.Needs.{needs}
+use Prim.Native.Nat.{ℕ, _+_}
+use mathlib.Core.Bool.{false}
+use mathlib.Core.List.{List}
+use mathlib.Core.Logic.{⊎-elim}
+use mathlib.Core.Path.{_≡_, _∙_}
 use native.Mathlib.Omega.{arith}
-use Rattle.script.specs.Command.{peripheralLine}
-use Rattle.script.proofs.Lines.{its-count, other-count, told}
+use lib.Dec.{eqb}
+use lib.ListN.{length}
+use Rattle.script.specs.Command.{peripheralLine, rightsFields}
+use Rattle.script.specs.Fields.{fieldsOf}
+use Rattle.script.specs.Numbers.{decimalOf, operationOf}
+use Rattle.script.specs.Places.{Starts}
+use Rattle.script.specs.declared.command.Command.the-variants.{Bad}
+use Rattle.script.specs.declared.events.Rights.the-variants.{NoRights}
+use Rattle.script.proofs.Lines.{told}
+use Rattle.script.proofs.Readings.{there, decimal-next, operation-next, either-way, rights-there, no-rights, some-rights}
 use Rattle.script.proofs.events.peripheral.Statement.{statement}
 use Rattle.script.proofs.events.peripheral.Tie as tie
+
+abbrev fields : tie.Start → List (List ℕ)
+fields c = fieldsOf (c .args .line .now)
+
+abbrev number : tie.After-p → tie.Start
+number c = c .before .before .before .before .before
+
+second : (c : tie.After-p) → Starts (number c .args .line .now) (fields (number c)) 2 (c .before .before .before .field-end .result + 1)
+second c =
+    let s = number c .pre in
+    decimal-next s _ (c .before .before .before .field-end .ensures) (there s decimalOf (c .before .before .decimal-at .ensures) (c .p .given .1))
+
+abbrev operation : tie.After-operation → tie.After-p
+operation c = c .before .before .before .before
+
+third : (c : tie.After-operation)
+    → Starts (number (operation c) .args .line .now) (fields (number (operation c))) 3
+    (operation c .before .before .before .field-end .result + 1 + 2)
+third c =
+    let s = second (operation c) in
+    operation-next s (there s operationOf (c .before .before .operation-at .ensures) (c .operation .given .1))
 
 returns : tie.Need-returns
 unfolding peripheralLine
 returns c =
-    rw (other-count 5 _ (c .before .before .pre .1) (c .if1 .taken))
+    let a = c .before .before .before .before .before in
+    rw (there (a .pre) decimalOf (c .before .before .decimal-at .ensures) (c .enum-told .given .1)) (either-way (eqb (length (fields a)) 5) Bad)
 
 returns-2 : tie.Need-returns-2
 unfolding peripheralLine
 returns-2 c =
+    let p = c .before .before .before .before in
     rw (
-      its-count 5 _ (c .before .before .before .before .before .pre .1) (c .before .before .before .if1 .left),
-      told (c .before .before .decimal-at .ensures) (c .enum-told .given .1),
+      there (number p .pre) decimalOf (p .before .before .decimal-at .ensures) (p .p .given .1),
+      there (second p) operationOf (c .before .before .operation-at .ensures) (c .enum-told2 .given .1),
     )
+    (either-way (eqb (length (fields (number p))) 5) Bad)
 
 returns-3 : tie.Need-returns-3
 unfolding peripheralLine
 returns-3 c =
-    let p = c .before .before .before .before in
+    let o = c .before .before .before .before in
+    let p = operation o in
+    let fs = fields (number p) in
+    ⊎-elim (λ (e : eqb (length fs) 5 ≡ false). rw e)
+    (λ (e : rightsFields fs 3 ≡ NoRights).
     rw (
-      its-count 5 _ (p .before .before .before .before .before .pre .1) (p .before .before .before .if1 .left),
-      told (p .before .before .decimal-at .ensures) (p .p .given .1),
-      told (c .before .before .operation-at .ensures) (c .enum-told2 .given .1),
+      there (number p .pre) decimalOf (p .before .before .decimal-at .ensures) (p .p .given .1),
+      there (second p) operationOf (o .before .before .operation-at .ensures) (o .operation .given .1),
+      e,
     )
+    (either-way (eqb (length fs) 5) Bad))
+    (no-rights (eqb (length fs) 5) (rightsFields fs 3)
+    (told (c .before .before .last-rights .ensures ∙ rights-there (third o)) (c .enum-told3 .given .1)))
 
 returns-4 : tie.Need-returns-4
 unfolding peripheralLine
 returns-4 c =
-    let operation = c .before .before .before .before in
-    let p = operation .before .before .before .before in
+    let r = c .before in
+    let o = r .before .before .before .before in
+    let p = operation o in
+    let fs = fields (number p) in
+    let e = some-rights (eqb (length fs) 5) (rightsFields fs 3)
+    (told (r .before .before .last-rights .ensures ∙ rights-there (third o)) (r .secure .given .1)) in
     rw (
-      its-count 5 _ (p .before .before .before .before .before .pre .1) (p .before .before .before .if1 .left),
-      told (p .before .before .decimal-at .ensures) (p .p .given .1),
-      told (operation .before .before .operation-at .ensures) (operation .operation .given .1),
-      told (c .before .before .rights-fields .ensures) (c .enum-told3 .given .1),
-    )
-
-returns-5 : tie.Need-returns-5
-unfolding peripheralLine
-returns-5 c =
-    let secure = c .before in
-    let operation = secure .before .before .before .before in
-    let p = operation .before .before .before .before in
-    rw (
-      its-count 5 _ (p .before .before .before .before .before .pre .1) (p .before .before .before .if1 .left),
-      told (p .before .before .decimal-at .ensures) (p .p .given .1),
-      told (operation .before .before .operation-at .ensures) (operation .operation .given .1),
-      told (secure .before .before .rights-fields .ensures) (secure .secure .given .1),
+      e .0,
+      there (number p .pre) decimalOf (p .before .before .decimal-at .ensures) (p .p .given .1),
+      there (second p) operationOf (o .before .before .operation-at .ensures) (o .operation .given .1),
+      e .1,
     )
 
 pub peripheral-spec : {M : Type 1} → statement M
 peripheral-spec =
     tie.close
-    (tie.spec returns (λ c κs. (c .before .before .pre .0, omega arith)) (λ c. search needs) (λ c. search needs) returns-2
-    (λ c κs. (c .before .before .before .before .before .before .pre .0, omega arith)) (λ c. search needs) (λ c. search needs)
-    returns-3
-    (λ c κs. (c .before .before .before .before .before .before .before .before .before .before .pre .0, omega arith, omega arith))
-    (λ c. search needs) (λ c. search needs) returns-4 returns-5)
+    (tie.spec (λ c κs. search needs) (λ c κs. c .field-end .ensures) (λ c. search needs) (λ c. search needs) returns
+    (λ c. omega (arith, second (c .before) .within)) (λ c κs. second (c .before) .within) (λ c. search needs) (λ c. search needs) returns-2
+    (λ c. omega (arith, third (c .before) .within)) (λ c. omega (arith, third (c .before) .within)) (λ c κs. third (c .before) .within)
+    (λ c. search needs) (λ c. search needs) returns-3 returns-4)

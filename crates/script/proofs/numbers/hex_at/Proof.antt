@@ -1,13 +1,30 @@
 -- `script::numbers::hex_at` meets its contract.
-use mathlib.Core.Path.{ap, _∙_}
-use Rattle.script.specs.Numbers.{hexOf}
+use borrow.Author.Needs.{needs}
+use borrow.Author.Tests.{not-true, not-false}
+use mathlib.Core.Path.{_∙_}
+use Prim.Native.Nat.{_+_}
+use Rattle.script.proofs.Fixed.{hex-fixed, not-there, read-there}
+use Rattle.script.proofs.Lines.{told}
+use Rattle.script.proofs.Places.{ends-within}
 use Rattle.script.proofs.numbers.hex_at.Statement.{statement}
 use Rattle.script.proofs.numbers.hex_at.Tie as tie
 
 returns : tie.Need-returns
-returns c = c .hex .ensures ∙ ap hexOf (c .before .field-at .ensures)
+returns c =
+    not-there hex-fixed _ _ (told (c .before .ends .ensures) (not-true (c .before .ends .result) (c .if1 .taken)))
+
+part-hex-end : tie.Need-part-hex-end
+part-hex-end c =
+    let a = c .before .before .before .args in
+    ends-within (a .line .now) (a .from + 8) (told (c .before .ends .ensures) (not-false (c .before .ends .result) (c .if1 .left)))
+
+returns-2 : tie.Need-returns-2
+returns-2 c =
+    let e = c .before .before .before in
+    c .hex .ensures ∙ read-there hex-fixed _ _ (told (e .ends .ensures) (not-false (e .ends .result) (c .before .before .if1 .left)))
 
 pub hex-at-spec : {M : Type 1} → statement M
 hex-at-spec =
     tie.close
-    (tie.spec (λ c κs. c .before .pre) (λ c κs. tt) returns)
+    (tie.spec (λ c. search needs) (λ c κs. search needs) returns (λ c. search needs) (λ c. search needs) part-hex-end
+    (λ c κs. search needs) returns-2)
