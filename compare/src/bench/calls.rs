@@ -4,7 +4,7 @@ use super::measure::Item;
 use crate::generate::states::{crowded_state, tiled_state};
 use crate::harness::random::Random;
 use crate::harness::words::{device_of, reset_words};
-use crate::linked;
+use crate::linked::{Access, PROVED};
 use crate::model::diff::{diff, DIFF_ROOM};
 use crate::model::{lookup, Block, Device, Direction, Event, MemoryAccess, RegisterAccess, Span};
 use std::hint::black_box;
@@ -79,7 +79,7 @@ fn calls(name: &'static str, count: usize, words: &[u32], list: Vec<MemoryAccess
     let events = list.clone();
     let proved = move || {
         for access in &list {
-            black_box(linked::memory(&mut state, access));
+            black_box(PROVED.memory(&mut state, access));
         }
     };
     let second = move || {
@@ -97,10 +97,10 @@ fn memory(name: &'static str, words: &[u32], cid: u32) -> Item {
 fn batch(name: &'static str, words: &[u32], cid: u32) -> Item {
     let (mut state, mut device) = (words.to_vec(), device_of(words));
     let list = accesses(BATCH, cid);
-    let records: Vec<linked::Access> = list.iter().map(linked::Access::from).collect();
+    let records: Vec<Access> = list.iter().map(Access::from).collect();
     let mut answers = vec![0; BATCH];
     let proved = move || {
-        black_box(linked::batch(&mut state, &records, &mut answers));
+        black_box(PROVED.batch(&mut state, &records, &mut answers));
     };
     let second = move || {
         black_box(device.batch(&list, BATCH));
@@ -125,7 +125,7 @@ fn register(name: &'static str, block: Block, offset: u32, direction: Direction)
     };
     let proved = move || {
         for data in 0..SINGLE as u32 {
-            black_box(linked::register(&mut state, number, GUARD, &access(data)));
+            black_box(PROVED.register(&mut state, number, GUARD, &access(data)));
         }
     };
     let second = move || {
@@ -140,7 +140,7 @@ fn map(name: &'static str, words: &[u32]) -> Item {
     let (state, device) = (words.to_vec(), device_of(words));
     let (mut numbers, mut used) = (vec![0; 201], 0);
     let proved = move || {
-        black_box(linked::map(&state, GUARD, &mut numbers, &mut used));
+        black_box(PROVED.map(&state, GUARD, &mut numbers, &mut used));
     };
     let second = move || drop(black_box(device.map(GUARD)));
     item(name, 1, proved, second)
@@ -174,7 +174,7 @@ fn diffs(name: &'static str, before: &[u32], after: &[u32]) -> Item {
     let (same_old, same_new) = (old.clone(), new.clone());
     let (mut room, mut used, mut other) = (vec![0; DIFF_ROOM], 0, vec![0; DIFF_ROOM]);
     let proved = move || {
-        black_box(linked::diff(GUARD, &old, &new, &mut room, &mut used));
+        black_box(PROVED.diff(GUARD, &old, &new, &mut room, &mut used));
     };
     let second = move || {
         black_box(diff(GUARD, &same_old, &same_new, &mut other));
@@ -191,7 +191,7 @@ fn lookups(name: &'static str, words: &[u32]) -> Item {
     let proved = move || {
         let mut row = [0; 3];
         for &offset in &offsets {
-            black_box(linked::lookup(&numbers, offset, &mut row));
+            black_box(PROVED.lookup(&numbers, offset, &mut row));
         }
     };
     let second = move || {

@@ -1,6 +1,6 @@
 //! Compares the proved library and program with the second program.
 
-use compare::linked::{Linked, DIRECTORY};
+use compare::linked::{Linked, DIRECTORY, PROVED};
 use compare::parts::options::{read, Wish};
 use compare::parts::run::run;
 use std::path::Path;
@@ -9,7 +9,7 @@ use std::process::ExitCode;
 fn main() -> ExitCode {
     match read(std::env::args().skip(1)) {
         Ok(Wish::Compare(options)) => {
-            let well = run(&options, &mut Linked::default(), Path::new(DIRECTORY));
+            let well = run(&options, &mut Linked::new(&PROVED), Path::new(DIRECTORY));
             ExitCode::from(u8::from(!well))
         }
         Ok(Wish::Print(text)) => {

@@ -1,6 +1,6 @@
-//! The proved library as a machine, with a fence around all it is lent.
+//! A library as a machine, with a fence around all it is lent.
 
-use super::{batch, diff, line, lookup, map, master, memory, peripheral, register, reset, Access};
+use super::{Access, Library};
 use crate::harness::call::{Call, Outcome};
 use crate::harness::machine::Machine;
 use crate::model::{Block, Event, MemoryAccess, Purpose, RegisterAccess};
@@ -41,22 +41,22 @@ impl<T: Copy + PartialEq + From<u32>> Fenced<T> {
 }
 
 pub struct Linked {
+    library: &'static Library,
     state: Fenced<u32>,
 }
 
-impl Default for Linked {
-    fn default() -> Linked {
+impl Linked {
+    pub fn new(library: &'static Library) -> Linked {
         Linked {
+            library,
             state: Fenced::new(&[]),
         }
     }
-}
 
-impl Linked {
     fn event(&mut self, event: &Event) -> u64 {
         let state = self.state.lend();
         match event {
-            Event::Reset => reset(state),
+            Event::Reset => self.library.reset(state),
             Event::Register(access) => self.register(access),
             Event::Peripheral(access) => {
                 let operation = match access.purpose {
@@ -64,10 +64,10 @@ impl Linked {
                     Purpose::Write => 1,
                     Purpose::Fetch => 2,
                 };
-                peripheral(state, operation, access)
+                self.library.peripheral(state, operation, access)
             }
-            Event::Memory(access) => memory(state, access),
-            Event::Master(access) => master(state, access),
+            Event::Memory(access) => self.library.memory(state, access),
+            Event::Master(access) => self.library.master(state, access),
         }
     }
 
@@ -78,12 +78,15 @@ impl Linked {
             Block::Iac => (1, access.data),
             Block::Risaf(guard) => (2, guard),
         };
-        register(self.state.lend(), block, guard, access)
+        self.library
+            .register(self.state.lend(), block, guard, access)
     }
 
     fn map(&mut self, guard: u32, lent: &[u64]) -> Outcome {
         let (mut lent, mut used) = (Fenced::new(lent), u64::from(POST));
-        let answer = map(self.state.inside(), guard, lent.lend(), &mut used);
+        let answer = self
+            .library
+            .map(self.state.inside(), guard, lent.lend(), &mut used);
         Outcome {
             answer,
             used,
@@ -95,7 +98,9 @@ impl Linked {
     fn batch(&mut self, accesses: &[MemoryAccess], lent: &[u64]) -> Outcome {
         let accesses: Vec<Access> = accesses.iter().map(Access::from).collect();
         let (kept, mut lent) = (accesses.clone(), Fenced::new(lent));
-        let answer = batch(self.state.lend(), &accesses, lent.lend());
+        let answer = self
+            .library
+            .batch(self.state.lend(), &accesses, lent.lend());
         Outcome {
             answer,
             stray: lent.broken() || accesses != kept,
@@ -106,10 +111,10 @@ impl Linked {
 }
 
 /// A lookup, which may change only the row, and that only where there is one.
-fn look(numbers: &[u64], offset: u64) -> Outcome {
+fn look(library: &Library, numbers: &[u64], offset: u64) -> Outcome {
     let lent = Fenced::new(numbers);
     let mut row = [u64::from(POST); 3];
-    let answer = lookup(lent.inside(), offset, &mut row);
+    let answer = library.lookup(lent.inside(), offset, &mut row);
     let (found, rest) = row.split_at(row.len().min(answer as usize));
     let kept = rest.iter().all(|&number| number == u64::from(POST));
     Outcome {
@@ -120,10 +125,10 @@ fn look(numbers: &[u64], offset: u64) -> Outcome {
 }
 
 /// What differs between two maps, which stay as they are.
-fn differ(guard: u32, before: &[u64], after: &[u64], lent: &[u64]) -> Outcome {
+fn differ(library: &Library, guard: u32, before: &[u64], after: &[u64], lent: &[u64]) -> Outcome {
     let (old, new) = (Fenced::new(before), Fenced::new(after));
     let (mut lent, mut used) = (Fenced::new(lent), u64::from(POST));
-    let answer = diff(guard, old.inside(), new.inside(), lent.lend(), &mut used);
+    let answer = library.diff(guard, old.inside(), new.inside(), lent.lend(), &mut used);
     let kept = old.inside() == before && new.inside() == after;
     Outcome {
         answer,
@@ -143,22 +148,22 @@ impl Machine for Linked {
             Call::Event(event) => Outcome::of(self.event(event)),
             Call::NoBlock { block, access } => {
                 let state = self.state.lend();
-                Outcome::of(register(state, *block, access.data, access))
+                Outcome::of(self.library.register(state, *block, access.data, access))
             }
             Call::NoOperation { operation, access } => {
                 let state = self.state.lend();
-                Outcome::of(peripheral(state, *operation, access))
+                Outcome::of(self.library.peripheral(state, *operation, access))
             }
-            Call::Line => Outcome::of(line(self.state.inside())),
+            Call::Line => Outcome::of(self.library.line(self.state.inside())),
             Call::Map { guard, lent } => self.map(*guard, lent),
-            Call::Lookup { numbers, offset } => look(numbers, *offset),
+            Call::Lookup { numbers, offset } => look(self.library, numbers, *offset),
             Call::Batch { accesses, lent } => self.batch(accesses, lent),
             Call::Diff {
                 guard,
                 before,
                 after,
                 lent,
-            } => differ(*guard, before, after, lent),
+            } => differ(self.library, *guard, before, after, lent),
         };
         outcome.stray |= self.state.broken();
         outcome
