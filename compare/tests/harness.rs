@@ -157,13 +157,13 @@ fn scripts_agree_and_differences_become_small() {
     let (program, mut tally) = (program(), Tally::default());
     let right = Sides {
         program: &program,
-        filter,
+        filter: &filter,
     };
     good(&right, &mut tally, &mut Random::new(1), 5_000).unwrap();
     bad(&right, &mut tally, &mut Random::new(1), 5_000).unwrap();
     let wrong = Sides {
         program: &program,
-        filter: |script| filter(&script.to_ascii_lowercase()),
+        filter: &|script: &[u8]| filter(&script.to_ascii_lowercase()),
     };
     let report = bad(&wrong, &mut tally, &mut Random::new(1), 50_000).unwrap_err();
     assert!(size_in(&report) < 60, "{report}");
@@ -180,7 +180,7 @@ fn a_script_that_must_be_long_is_no_longer_than_that() {
     let (program, mut tally) = (program(), Tally::default());
     let wrong = Sides {
         program: &program,
-        filter: |script| match script.iter().filter(|&&byte| byte == b'\n').count() {
+        filter: &|script: &[u8]| match script.iter().filter(|&&byte| byte == b'\n').count() {
             0..200 => filter(script),
             _ => [&filter(script)[..], b"once more\n"].concat(),
         },

@@ -23,7 +23,7 @@ pub fn filter(script: &[u8]) -> Vec<u8> {
 /// Both sides of the comparison.
 pub struct Sides<'a> {
     pub program: &'a Program,
-    pub filter: Filter,
+    pub filter: &'a dyn Fn(&[u8]) -> Vec<u8>,
 }
 
 /// How long a script is given to become small.

@@ -2,6 +2,8 @@
 
 pub mod accesses;
 pub mod diffs;
+#[cfg(feature = "proved")]
+pub mod equal;
 pub mod example;
 pub mod lines;
 pub mod memory;

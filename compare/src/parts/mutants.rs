@@ -55,6 +55,9 @@ fn rules_differ(seed: u64, rules: Rules, subject: &mut dyn Machine) -> bool {
 
 fn lines_differ(seed: u64, filter: Filter, program: &Program) -> bool {
     let mut random = Random::named(seed, "mutants");
-    let sides = Sides { program, filter };
+    let sides = Sides {
+        program,
+        filter: &filter,
+    };
     (0..SCRIPTS).any(|_| sides.differ(&damaged_script(&mut random, 200)))
 }

@@ -19,14 +19,14 @@ use std::time::Instant;
 
 /// Counts parts as they pass or fail, and prints how.
 #[derive(Default)]
-struct Report {
+pub struct Report {
     passed: usize,
     failed: usize,
     times: String,
 }
 
 impl Report {
-    fn part(&mut self, name: &str, run: impl FnOnce() -> Result<String, String>) {
+    pub fn part(&mut self, name: &str, run: impl FnOnce() -> Result<String, String>) {
         let started = Instant::now();
         match run() {
             Ok(told) => {
@@ -43,7 +43,7 @@ impl Report {
         write!(self.times, " {name} {seconds:.1}").unwrap();
     }
 
-    fn end(self) -> bool {
+    pub fn end(self) -> bool {
         println!("seconds:{}", self.times);
         println!("{} passed, {} failed", self.passed, self.failed);
         self.failed == 0
@@ -95,7 +95,10 @@ fn scripts(report: &mut Report, tally: &mut Tally, options: &Options, program: &
         Some(Change::Lines(wrong)) => wrong,
         _ => filter,
     };
-    let sides = Sides { program, filter };
+    let sides = Sides {
+        program,
+        filter: &filter,
+    };
     let half = options.lines.div_ceil(2);
     let mut random = Random::named(options.seed, "scripts");
     report.part("scripts", || good(&sides, tally, &mut random, half));
