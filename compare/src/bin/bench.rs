@@ -1,13 +1,14 @@
-//! Times of the proved library and program next to the second program's.
+//! Times of the proved library and program next to plain C and to the second program.
 
 use compare::bench::run;
 use std::path::PathBuf;
 use std::process::ExitCode;
 
 const HELP: &str = "\
-Measures the proved library and program next to the second program, in turn,
-and prints a table in Markdown: nanoseconds for each access, map or line
-(medians), their ratio, and how far the middle half of the rounds lies apart.
+Measures the proved library and program next to the yardstick in plain C and to
+the second program, in turn, and prints a table in Markdown: nanoseconds for
+each access, map or line (medians), their ratios, and how far the middle half of
+the rounds lies apart.
 
     bench [--rounds N] [--program PATH] [--filter PATH]
 
