@@ -1,7 +1,9 @@
 //! How fast the proved library and program are, next to plain C and the second program.
 
 mod accesses;
+pub mod count;
 mod events;
+mod growth;
 mod lines;
 mod maps;
 mod measure;
