@@ -1,6 +1,6 @@
 -- The words that a write leaves, as the code makes them.
-use mathlib.Core.Bool.{Bool, true, false, not, _&&_, _||_, cond, and-true, and-false, or-false}
-use mathlib.Core.Path.{_≡_, refl, sym, ap, _∙_}
+use mathlib.Core.Bool.{Bool, true, false, not, _&&_, _||_, cond, and-true, and-false}
+use mathlib.Core.Path.{_≡_, sym, ap, _∙_}
 use Prim.Native.Nat.{ℕ, _^_, _<_}
 use lib.Dec.{eqb}
 use Rattle.words.specs.Bit.{bit, word, merged, withBit}
@@ -36,9 +36,3 @@ pub cfgr-is : (named : ℕ) (p : Port) (value : ℕ) (secure : Bool)
     ≡ subcfgrWritten named p value secure
 unfolding subcfgrWritten
 cfgr-is named p value secure = cfgr-by 32 named (p .word) value 1 secBit (p .glock) secure
-
--- ---- a bit for the direction
-
-pub either-is : (t a b : Bool) → (t && a || not t && b) ≡ cond t a b
-either-is true a b = simp or-false
-either-is false a b = refl

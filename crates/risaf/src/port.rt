@@ -10,12 +10,14 @@ use access::Cid;
 use access::Request;
 use regions::places::COMPARTMENTS;
 use regions::places::SEC;
+ghost use mathlib.Core.Bool.{_&&_, cond, true};
 ghost use mathlib.Core.Path.{_≡_};
+ghost use Prim.Native.Nat.{_%_};
+ghost use lib.Dec.{eqb};
 ghost use lib.ListN.{getD};
 ghost use Rattle.words.specs.Bit.{word};
 ghost use Rattle.risaf.specs.Port.{
   accessed,
-  allowedOf,
   answerOf,
   bitIf,
   delegated,
@@ -74,13 +76,10 @@ fn delegated(p: Port, secure: bool) -> bool
     secure
 }
 
-// The rights suffice.
-fn allowed(row: Row, p: Port, q: Request) -> bool
-    ensures { λ r. ⌜ r ≡ allowedOf row p q ⌝ }
+// The rights suffice for a write.
+fn may_write(row: Row, p: Port, q: Request) -> bool
+    ensures { λ r. ⌜ r ≡ (q .privileged && cond (row .delegable) (delegated p (q .secure)) (q .secure)) ⌝ }
 {
-    if !q.write {
-        return !row.guarded | (q.secure & q.privileged);
-    }
     if row.delegable {
         return q.privileged & delegated(p, q.secure);
     }
@@ -97,22 +96,43 @@ fn locked(lock: Lock, p: Port) -> bool
     }
 }
 
-// The answer to an access to a register with this row: there says whether the guard is one there is.
-fn answer(there: bool, row: Row, p: Port, q: Request) -> Answer
-    ensures { λ r. ⌜ r ≡ answerOf there row p q ⌝ }
+// The checks of an access to the register with this row, by what differs between reads and writes: there says whether the guard is one
+// there is.
+fn checks(
+    there: bool,
+    row: Row,
+    offset: u32,
+    allowed: bool,
+    direction: bool,
+    unlocked: bool,
+) -> Checks
+    ensures { λ r. ⌜ r ≡ record { present = there; aligned = eqb (offset % 4) 0; inside = true; fetchless = true; known = row .known; allowed = allowed; direction = direction; unlocked = unlocked } ⌝ }
 {
-    let lock = row.lock;
-    let checks = Checks {
+    Checks {
         present: there,
-        aligned: q.offset % 4 == 0,
+        aligned: offset % 4 == 0,
         inside: true,
         fetchless: true,
         known: row.known,
-        allowed: allowed(row, p, q),
-        direction: (q.write & row.writable) | (!q.write & row.readable),
-        unlocked: !q.write | !locked(lock, p),
-    };
-    checks.answer(q.gives(words::masked(p.word, row.named)))
+        allowed,
+        direction,
+        unlocked,
+    }
+}
+
+// The answer to an access to the register with this row.
+fn answer(there: bool, row: Row, p: Port, q: Request) -> Answer
+    ensures { λ r. ⌜ r ≡ answerOf there row p q ⌝ }
+{
+    if q.write {
+        let lock = row.lock;
+        let allowed = may_write(row, p, q);
+        let unlocked = !locked(lock, p);
+        return checks(there, row, q.offset, allowed, row.writable, unlocked).answer(0);
+    }
+    let allowed = !row.guarded | (q.secure & q.privileged);
+    let read = words::masked(p.word, row.named);
+    checks(there, row, q.offset, allowed, row.readable, true).answer(read)
 }
 
 // The bits, but bit k only where it may be.
