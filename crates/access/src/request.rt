@@ -1,6 +1,3 @@
-ghost use mathlib.Core.Path.{_≡_};
-ghost use Rattle.access.specs.Request.{gives};
-
 // What a register access asks of a block's port.
 pub struct Request {
     pub offset: u32,
@@ -9,13 +6,4 @@ pub struct Request {
     pub value: u32,
     pub secure: bool,
     pub privileged: bool,
-}
-
-impl Request {
-    // What is given back where it is done: of a read the word, of a write 0.
-    pub fn gives(self, word: u32) -> u32
-        ensures { λ r. ⌜ r ≡ gives self word ⌝ }
-    {
-        if self.write { 0 } else { word }
-    }
 }
