@@ -2,8 +2,9 @@
 use mathlib.Core.Bool.{Bool, true, false}
 use mathlib.Core.List.{List, [], _∷_, _++_, append-assoc, append-nil}
 use mathlib.Core.Path.{_≡_, refl, sym, ap, _∙_}
-use Prim.Native.Nat.{ℕ, zero, suc, _+_, _-_, _/_, _%_, _^_, _≤_, _<_}
+use Prim.Native.Nat.{ℕ, zero, suc, _+_, _-_, _*_, _/_, _%_, _^_, _≤_, _<_}
 use native.Mathlib.Nat.{add-zero, pow-suc}
+use native.Mathlib.Decide.{decLt}
 use native.Mathlib.Omega.{arith}
 use borrow.Author.Tests.{lt-ltb, le-ltb, ltb-true, ltb-false}
 use lib.Dec.{ltb}
@@ -17,6 +18,14 @@ pub digits-length : (base k n : ℕ) → length (digitsOf base k n) ≡ k
 unfolding digitsOf
 digits-length base zero n = refl
 digits-length base (suc k) n = simp (length-append, digits-length base k (n / base)) (omega arith)
+
+-- the code's digit, which takes no branch
+pub character-is : (d : ℕ) → d < 16 → 48 + d + 39 * ((d + 6) / 16) ≡ character d
+character-is d h = by (decLt d 10)
+  where
+    by : Dec (d < 10) → 48 + d + 39 * ((d + 6) / 16) ≡ character d
+    by (yes l) = rw (lt-ltb d 10 l) (omega arith)
+    by (no l) = rw (le-ltb d 10 (omega arith)) (omega arith)
 
 -- ---- writing
 

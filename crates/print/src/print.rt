@@ -33,16 +33,15 @@ fn put(out: &mut [u8], at: usize, bytes: &[u8]) -> usize
     at + i
 }
 
-// The character of a digit, 0 to 9 and a to f.
+// How far a stands behind the character that follows 9.
+const LETTERS: u64 = 39;
+
+// The character of a digit, 0 to 9 and a to f. No branch: with six added, a digit from ten on is sixteen or more.
 fn character(d: u64) -> u8
     requires { ⌜ d < 16 ⌝ }
     ensures { λ r. ⌜ r ≡ character d ⌝ }
 {
-    if d < 10 {
-        b'0' + d as u8
-    } else {
-        b'a' + (d - 10) as u8
-    }
+    (b'0' as u64 + d + LETTERS * ((d + 6) / 16)) as u8
 }
 
 // Writes the last `count` digits of n in the base, and the byte that ends them, from `at` on. The place after them.
