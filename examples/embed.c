@@ -24,7 +24,8 @@ int main(void) {
     put(0x4c, 0x00040006); /* CIDCFGR: 1 and 2 may read, 2 may write */
     put(0x40, 0x00000001); /* CFGR: enabled, nonsecure */
     want(get(0x10000), 1);             /* granted, by rule 1 */
-    want(RIF_NUMBER(get(0x20000)), 1); /* refused */
+    want(RIF_NUMBER(get(0x20000)), 1); /* refused, */
+    want(RIF_VALUE(get(0x20000)), RIF_SECURITY); /* being nonsecure */
     uint64_t rows[RIF_MAP_NUMBERS], used;
     want(rif_map(state, RIF_STATE_WORDS, 2, rows, RIF_MAP_NUMBERS, &used), 0);
     for (uint64_t i = 0; i < used; i += 3)

@@ -21,7 +21,8 @@
  * ANSWER. One uint64_t, 2^32 * number + value:
  *   0  done or granted; the value is the word that a register read gives, or the rule that governed a memory access
  *      (0 default, 1 base region, 2 subregion), and 0 otherwise
- *   1  rights fail: flags and fault registers are set
+ *   1  rights fail: flags and fault registers are set; of a memory access, by a master too and in a batch, the value is the reason: the
+ *      first test that fails, RIF_SECURITY, RIF_PRIVILEGE or RIF_COMPARTMENT (or the direction); elsewhere it is 0
  *   2  the register is locked
  *   3  the offset is no register, a write to a read-only one, a read of a write-only one
  *   4  no such block, guard, master, peripheral or operation; CID over 7; width not 1, 2, 4; rif_diff: a map whose starts and ends
@@ -55,6 +56,9 @@ extern "C" {
 /* The number and the value of an answer. */
 #define RIF_NUMBER(answer) ((uint32_t)((answer) >> 32))
 #define RIF_VALUE(answer) ((uint32_t)(answer))
+
+/* Why a memory access is refused: the value of 1. */
+enum { RIF_SECURITY = 1, RIF_PRIVILEGE = 2, RIF_COMPARTMENT = 3 };
 
 /* The blocks that have registers. */
 enum { RIF_RIFSC = 0, RIF_IAC = 1, RIF_RISAF = 2 };

@@ -2,10 +2,11 @@
 use mathlib.Core.Bool.{Bool, true, false, _&&_, cond}
 use mathlib.Core.List.{List, [], _∷_}
 use mathlib.Core.Path.{_≡_, refl, sym, ap, _∙_}
-use Prim.Native.Nat.{ℕ, _≤_}
+use Prim.Native.Nat.{ℕ}
 use native.Mathlib.Omega.{arith}
 use lib.ListN.{length}
 use lib.Seq.{set-getD}
+use borrow.Author.Tests.{eq-eqb, ne-eqb}
 use types.Run.{OneOf, miss}
 use denote.Enum.Declared.{tagOf}
 use Rattle.access.proofs.answer.Answer.{the-type}
@@ -16,11 +17,11 @@ use Rattle.access.specs.declared.answer.Answer.the-variants.{Done, Refused, Rej
 use Rattle.access.specs.declared.kind.Kind.{Kind}
 use Rattle.access.specs.declared.request.Request.{Request}
 use Rattle.regions.specs.Lent.{decidedIn}
-use Rattle.regions.specs.Words.{base}
+use Rattle.regions.specs.Rules.{decided}
 use Rattle.regions.specs.declared.rules.Verdict.{Verdict}
 use Rattle.risaf.specs.Contents.{iasrAt, regionsWords, guardWords, withWord}
 use Rattle.risaf.specs.Guards.{shapeOf}
-use Rattle.risaf.specs.Memory.{memoryAnswer, faulted, memoryStepped}
+use Rattle.risaf.specs.Memory.{memoryAnswer, memoryChecked, faulted, memoryStepped}
 use Rattle.risaf.specs.Port.{portIn, accessed, stepped}
 use Rattle.risaf.specs.Registers.{registerAt}
 use Rattle.risaf.specs.Rows.{rowOf}
@@ -30,7 +31,7 @@ use Rattle.risaf.specs.declared.guards.Shape.{Shape}
 use Rattle.risaf.specs.declared.port.Accessed.{Accessed}
 use Rattle.risaf.specs.declared.port.Port.{Port}
 use Rattle.risaf.specs.declared.rows.Row.{Row}
-use Rattle.risaf.proofs.MemoryAnswer.{answer-in}
+use Rattle.risaf.proofs.MemoryAnswer.{ruled, onward, answer-onward, checked-unrefused, answer-in}
 use Rattle.risaf.proofs.Shapes.{regions-most}
 use Rattle.device.specs.State.{State, guardAt, guardOf, withGuards, withGuardAt, withGuard, flagged}
 use Rattle.device.specs.Step.{Outcome, settled, registerStep, memoryStep}
@@ -75,37 +76,53 @@ module _ (s : State) (n : GuardNumber) (q : Request) {shape : Shape} {row : Row}
 
 -- ---- a memory access
 
-module _ (s : State) (there : Bool) (n o width : ℕ) (k : Kind) {shape : Shape} {w : List ℕ} {v : Verdict} {a : Answer} (es : shape ≡ shapeOf n)
-    (ew : w ≡ guardAt s (shape .place) .regions) (lw : length w ≡ regionsWords) (ev : v ≡ decidedIn w (shape .regions) o k)
-    (ea : a ≡ memoryAnswer (there && shape .there) shape o width k v) where
+module _ (s : State) (there : Bool) (n o width : ℕ) (k : Kind) {shape : Shape} {a : Answer} (es : shape ≡ shapeOf n)
+    (ea : a ≡ memoryChecked (there && shape .there) shape o width k) where
   abbrev h : Guard
   h = guardAt s (shape .place)
 
-  few : base (shape .regions) ≤ length w
-  few = let m = regions-most n in let e : shape .regions ≡ shapeOf n .regions = ap (λ (x : Shape). x .regions) es in omega arith
+  abbrev answerBy : Verdict → Answer
+  answerBy v = memoryAnswer (there && shape .there) shape o width k v
 
-  memory-is : memoryStep there n o width k s
-      ≡ settled a (shape .flag) s (withGuardAt s (shape .place) (left a h h (faulted h o k)))
+  -- with this answer
+  abbrev steppedBy : Answer → Outcome
+  steppedBy b = settled b (shape .flag) s (withGuardAt s (shape .place) (left b h h (faulted h o k)))
+
+  memory-is : memoryStep there n o width k s ≡ steppedBy (answerBy (decided (h .regions) (shape .regions) o k))
   unfolding memoryStep memoryStepped guardOf withGuard
-  memory-is =
-      let m = regions-most n in
-      let e : shape .regions ≡ shapeOf n .regions = ap (λ (x : Shape). x .regions) es in
-      let f = ea ∙ ap (memoryAnswer (there && shape .there) shape o width k) ev
-      ∙ answer-in (there && shape .there) shape o width k w (shape .regions) (omega arith) few in
-      rw (f, ew, es)
+  memory-is = rw es refl
 
-  pub memory-answered : a ≡ memoryStep there n o width k s .answer
-  memory-answered = sym (ap (λ (x : Outcome). x .answer) memory-is)
+  by-verdict : (v : Verdict) → answerBy v ≡ onward a (ruled v)
+  by-verdict v = answer-onward (there && shape .there) shape o width k v ∙ ap (λ (x : Answer). onward x (ruled v)) (sym ea)
 
-  pub memory-refused : {t : State} {x : ℕ} → a ≡ Refused x
-      → t ≡ flagged (shape .flag) (withGuardAt s (shape .place) (faulted h o k)) → t ≡ memoryStep there n o width k s .next
-  memory-refused d e = rw memory-is (rw d e)
-
-  pub memory-kept : OneOf (0 ∷ 2 ∷ []) (tagOf the-type a) → s ≡ memoryStep there n o width k s .next
-  memory-kept t = rw memory-is (by a t)
+  pub memory-rejected : OneOf (1 ∷ 2 ∷ []) (tagOf the-type a)
+      → (a ≡ memoryStep there n o width k s .answer) × (s ≡ memoryStep there n o width k s .next)
+  memory-rejected t = rw (memory-is, by-verdict (decided (h .regions) (shape .regions) o k)) (by a refl t)
     where
-      by : (b : Answer) → OneOf (0 ∷ 2 ∷ []) (tagOf the-type b)
-          → s ≡ settled b (shape .flag) s (withGuardAt s (shape .place) (left b h h (faulted h o k))) .next
-      by (Done x) t = sym (guard-same s (shape .place))
-      by (Refused x) t = absurd (miss (0 ∷ 2 ∷ []) 1 tt t)
-      by (Rejected x) t = refl
+      by : (b : Answer) → a ≡ b → OneOf (1 ∷ 2 ∷ []) (tagOf the-type b)
+          → (b ≡ onward b (ruled (decided (h .regions) (shape .regions) o k)))
+          × (s ≡ steppedBy (onward b (ruled (decided (h .regions) (shape .regions) o k))) .next)
+      by (Done x) e t = absurd (miss (1 ∷ 2 ∷ []) 0 tt t)
+      by (Refused x) e t = absurd (checked-unrefused (there && shape .there) shape o width k (sym ea ∙ e))
+      by (Rejected x) e t = (refl, refl)
+
+  -- where nothing rejects it, by the verdict on the words lent
+  module _ {x : ℕ} (done : a ≡ Done x) {w : List ℕ} {v : Verdict} (ew : w ≡ h .regions) (lw : length w ≡ regionsWords)
+      (ev : v ≡ decidedIn w (shape .regions) o k) where
+    memory-by : memoryStep there n o width k s ≡ steppedBy (ruled v)
+    memory-by =
+        let m = regions-most n in
+        let e : shape .regions ≡ shapeOf n .regions = ap (λ (y : Shape). y .regions) es in
+        memory-is
+        ∙ ap steppedBy
+        (ap (λ (l : List ℕ). answerBy (decided l (shape .regions) o k)) (sym ew)
+        ∙ sym (answer-in (there && shape .there) shape o width k w (shape .regions) (omega arith) (omega arith))
+        ∙ ap answerBy (sym ev) ∙ by-verdict v ∙ ap (λ (y : Answer). onward y (ruled v)) done)
+
+    pub memory-granted : v .reason ≡ 0
+        → (Done (v .rule) ≡ memoryStep there n o width k s .answer) × (s ≡ memoryStep there n o width k s .next)
+    memory-granted e = rw memory-by (rw (eq-eqb (v .reason) 0 e) (refl, sym (guard-same s (shape .place))))
+
+    pub memory-refused : (v .reason ≡ 0 → ⊥) → {t : State} → t ≡ flagged (shape .flag) (withGuardAt s (shape .place) (faulted h o k))
+        → (Refused (v .reason) ≡ memoryStep there n o width k s .answer) × (t ≡ memoryStep there n o width k s .next)
+    memory-refused d e = rw memory-by (rw (ne-eqb (v .reason) 0 d) (refl, e))

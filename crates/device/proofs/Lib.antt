@@ -14,5 +14,6 @@ pub mod NamedStates
 pub mod PartWords
 pub mod Parts
 pub mod PeripheralSteps
+pub mod Reasons
 pub mod Refusals
 pub mod StateLayout

@@ -12,7 +12,7 @@ use borrow.Author.Tests.{not-true}
 use Rattle.words.specs.Bit.{bit, word}
 use Rattle.words.proofs.Laws.{bit-word, bit-merged}
 use Rattle.access.specs.Answer.{numberOf}
-use Rattle.access.specs.Checks.{unless, reached, answered}
+use Rattle.access.specs.Checks.{unless, answered, answeredWith, reachedWith}
 use Rattle.access.specs.declared.answer.Answer.{Answer}
 use Rattle.access.specs.declared.answer.Answer.the-variants.{Done, Refused, Rejected}
 use Rattle.access.specs.declared.answer.Why.the-variants.{Locked, NoRegister, NoSuch, Misaligned, Outside, Fetch}
@@ -223,7 +223,7 @@ free-last true value v e = refl
 free-last false value v e = absurd (omega (arith, ap numberOf e))
 
 done-free : (c : Checks) (value v : ℕ) → answered c value ≡ Done v → c .unlocked ≡ true
-unfolding answered reached
+unfolding answeredWith reachedWith
 done-free c value v e =
     free-last (c .unlocked) value v
     (passed (c .direction) (Rejected NoRegister) _ v (lit≤ tt)

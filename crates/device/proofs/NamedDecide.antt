@@ -9,7 +9,7 @@ use lib.ListN.{length}
 use Rattle.words.specs.Bit.{one}
 use Rattle.words.specs.Six.{bitAt}
 use Rattle.words.proofs.Alike.{Same, same-refl, same-fits, each-get}
-use Rattle.access.specs.Checks.{answered}
+use Rattle.access.specs.Checks.{answered, answeredWith}
 use Rattle.access.specs.declared.answer.Answer.{Answer}
 use Rattle.access.specs.declared.answer.Answer.the-variants.{Done, Refused, Rejected}
 use Rattle.access.specs.declared.answer.Why.the-variants.{NoSuch, WrongLength}
@@ -54,8 +54,8 @@ reset-same = memory-alike Same (layout resetState) (layout resetState) (same-ref
 
 -- ---- what is rejected as none that there is
 
-no-master : (a : MasterAccess) (s : State) → isMaster (a .master) ≡ false → step (Master a) s ≡ record { answer = Rejected NoSuch; next = s }
-unfolding step memoryStep memoryStepped memoryAnswer memoryChecks answered
+pub no-master : (a : MasterAccess) (s : State) → isMaster (a .master) ≡ false → step (Master a) s ≡ record { answer = Rejected NoSuch; next = s }
+unfolding step memoryStep memoryStepped memoryAnswer memoryChecks answeredWith
 no-master a s h = rw h
 
 named-peripheral : (p : PeripheralNumber) → exists p ≡ true → bitAt ppsrs (p .0) ≡ true
@@ -104,7 +104,7 @@ module _ {s s′ : State} (same : Alike Same namedState s s′) where
 
   -- the peripheral's SEC and PRIV are looked at where it is one there is
   peripheral-same : (a : PeripheralAccess) → Both (peripheralStep a s) (peripheralStep a s′)
-  unfolding peripheralStep answered
+  unfolding peripheralStep answeredWith
   peripheral-same a = settled-same _ (go (exists (a .peripheral)) refl) same
     where
       go : (b : Bool) → exists (a .peripheral) ≡ b → answered (peripheralChecks a s) 0 ≡ answered (peripheralChecks a s′) 0

@@ -4,6 +4,7 @@
 --     Run        meaning: events one after the other
 --     Locks      meaning: the locks there are, and the settings
 --     Refusals   meaning: what a refusal with 1 leaves
+--     Reasons    meaning: why an access is refused
 --     Masters    meaning: a master's access as a memory access
 --     Applied    meaning: an event on lent memory
 --     Layout     meaning: the state's memory, part by part
@@ -13,6 +14,7 @@ pub mod Layout
 pub mod Locks
 pub mod Masters
 pub mod Named
+pub mod Reasons
 pub mod Refusals
 pub mod Run
 pub mod State

@@ -4,8 +4,9 @@ use crate::guards::store_faults;
 use crate::layout::region_words;
 use access::Answer;
 use access::Kind;
+use regions::NO_REASON;
 use risaf::GuardNumber;
-use risaf::memory_answer;
+use risaf::memory_checked;
 ghost use mathlib.Core.Path.{_≡_};
 ghost use lib.ListN.{length};
 ghost use Rattle.device.specs.Layout.{stateOf, stateWords};
@@ -25,12 +26,16 @@ pub(crate) fn access_memory(
     ensures next { λ _. ⌜ stateOf (now (state .exit)) ≡ memoryStep there (guard .0) o width k (stateOf (now (state .entry))) .next ⌝ }
 {
     let shape = guard.shape();
+    let checked = memory_checked(there & shape.there, shape, o, width, k);
+    let Answer::Done(_) = checked else {
+        return checked;
+    };
     let verdict = regions::decide(region_words(state, shape.place), shape.regions, o, k);
-    let answer = memory_answer(there & shape.there, shape, o, width, k, verdict);
-    if let Answer::Refused(_) = answer {
-        let faults = load_faults(state, shape.place).recorded(o, k);
-        store_faults(state, shape.place, faults);
-        raise(state, shape.flag);
+    if verdict.reason == NO_REASON {
+        return Answer::Done(verdict.rule);
     }
-    answer
+    let faults = load_faults(state, shape.place).recorded(o, k);
+    store_faults(state, shape.place, faults);
+    raise(state, shape.flag);
+    Answer::Refused(verdict.reason)
 }

@@ -1,20 +1,18 @@
 -- A guard's rights change only at boundaries of its enabled regions: its map is that of a sweep, and has at most 67 rows.
 use mathlib.Core.Bool.{Bool, true, false, _&&_, cond}
 use mathlib.Core.List.{List, _∷_}
-use mathlib.Core.Path.{_≡_, refl, sym, ap, _∙_}
-use Prim.Native.Nat.{ℕ, zero, suc, _+_, _*_, _≤_}
+use mathlib.Core.Path.{_≡_, refl, sym, ap, ap₂}
+use Prim.Native.Nat.{ℕ, zero, suc, _+_, _*_, _≤_, _<_}
+use native.Mathlib.Decide.{decLt}
 use native.Mathlib.Omega.{arith}
 use lib.ListN.{length}
 use Rattle.words.proofs.Laws.{word-cong}
 use Rattle.access.specs.Kind.{kindOf}
-use Rattle.access.specs.declared.kind.Kind.{Kind}
 use Rattle.risaf.specs.Guards.{shapeOf}
 use Rattle.regions.specs.Words.{base, sub, mostRegions}
 use Rattle.regions.specs.Rights.{rightsWord}
-use Rattle.regions.specs.Rules.{covers}
-use Rattle.regions.specs.Tally.{tally, added, subAdded, judged}
-use Rattle.regions.specs.declared.rules.Verdict.{Verdict}
-use Rattle.regions.proofs.Tally.{tally-suc, decided-judged}
+use Rattle.regions.specs.Rules.{covers, counts, granted}
+use Rattle.regions.proofs.SameVerdict.{same-verdict}
 use Rattle.spans.specs.Rows.{encloses, size}
 use Rattle.spans.specs.Map.{mapOf}
 use Rattle.spans.specs.Sweep.{sweptMap, boundsOf}
@@ -35,36 +33,48 @@ module _ (w : List ℕ) (o o′ : ℕ) where
   pair-alike true p ps a = a
   pair-alike false p ps a = (refl, a)
 
-  region-alike : (x : ℕ) (k : Kind) (ps : List (ℕ × ℕ)) → Alike (withRegion w x ps) o o′
-      → (added w x o k (tally w x o k) ≡ added w x o′ k (tally w x o k)) × Alike ps o o′
-  unfolding added subAdded Alike
-  region-alike x k ps = by (enabled w (base x)) refl
+  -- base region x covers both or neither, and so does each of its subregions where it does
+  abbrev Both : ℕ → Type 0
+  Both x = (covers w (base x) o ≡ covers w (base x) o′) × ((s : ℕ) → s < 2 → counts w o x s ≡ counts w o′ x s)
+
+  both-subs : (x : ℕ) → covers w (base x) o ≡ covers w (base x) o′ → covers w (sub x 0) o ≡ covers w (sub x 0) o′
+      → covers w (sub x 1) o ≡ covers w (sub x 1) o′ → (s : ℕ) → s < 2 → counts w o x s ≡ counts w o′ x s
+  both-subs x b p q zero h = ap₂ _&&_ b p
+  both-subs x b p q (suc zero) h = ap₂ _&&_ b q
+  both-subs x b p q (suc (suc s)) h = absurd (omega arith)
+
+  region-alike : (x : ℕ) (ps : List (ℕ × ℕ)) → Alike (withRegion w x ps) o o′ → Both x × Alike ps o o′
+  unfolding Alike
+  region-alike x ps = by (enabled w (base x)) refl
     where
       by : (c : Bool) → enabled w (base x) ≡ c
-          → Alike (cond c (withPair w (sub x 1) (withPair w (sub x 0) (pairAt w (base x) ∷ ps))) ps) o o′
-          → (added w x o k (tally w x o k) ≡ added w x o′ k (tally w x o k)) × Alike ps o o′
+          → Alike (cond c (withPair w (sub x 1) (withPair w (sub x 0) (pairAt w (base x) ∷ ps))) ps) o o′ → Both x × Alike ps o o′
       by true e a =
           let p = pair-alike (enabled w (sub x 1)) (pairAt w (sub x 1)) _ a in
           let q = pair-alike (enabled w (sub x 0)) (pairAt w (sub x 0)) _ (p .1) in
           let b : covers w (base x) o ≡ covers w (base x) o′ = ap (λ (c : Bool). enabled w (base x) && c) (q .1 .0) in
-          (simp (b, q .0, p .0), q .1 .1)
-      by false e a = (simp e, a)
+          ((b, both-subs x b (q .0) (p .0)), q .1 .1)
+      by false e a = ((rw e refl, λ s h. rw e refl), a)
 
-  tally-alike : (n : ℕ) (k : Kind) → Alike (pairsOf w n) o o′ → tally w n o k ≡ tally w n o′ k
-  unfolding tally pairsOf
-  tally-alike zero k a = refl
-  tally-alike (suc n) k a =
-      let p = region-alike n k (pairsOf w n) a in
-      tally-suc w n o k ∙ p .0 ∙ ap (added w n o′ k) (tally-alike n k (p .1)) ∙ sym (tally-suc w n o′ k)
+  regions-alike : (n : ℕ) → Alike (pairsOf w n) o o′ → (x : ℕ) → x < n → Both x
+  unfolding pairsOf
+  regions-alike zero a x h = absurd (omega arith)
+  regions-alike (suc n) a x h = go (decLt x n) (region-alike n (pairsOf w n) a) (λ b l. regions-alike n b x l)
+    where
+      go : Dec (x < n) → Both n × Alike (pairsOf w n) o o′ → (Alike (pairsOf w n) o o′ → x < n → Both x) → Both x
+      go (yes l) p below = below (p .1) l
+      go (no r) p below =
+          let e : x ≡ n = omega arith in
+          rw e (p .0)
 
   rights-alike : (n : ℕ) → Alike (pairsOf w n) o o′ → rightsWord w n o ≡ rightsWord w n o′
   unfolding rightsWord
   rights-alike n a =
+      let both = regions-alike n a in
       word-cong 64 _ _
       (λ b h.
-      let k = kindOf b in
-      ap (λ (v : Verdict). v .granted)
-      (decided-judged w n o k ∙ ap (λ t. judged t k) (tally-alike n k a) ∙ sym (decided-judged w n o′ k)))
+      ap granted
+      (same-verdict w w n o o′ (kindOf b) (λ x l. both x l .0) (λ x l. both x l .1) (λ x l. (refl, refl, refl)) (λ x l s i. (refl, refl, refl))))
 
 pub steady : (w : List ℕ) (n : ℕ) → Steady (rightsWord w n) (boundsOf (pairsOf w n))
 steady w n = steady-pairs (rightsWord w n) (pairsOf w n) (λ x y a. rights-alike w x y n a)

@@ -1,5 +1,5 @@
 -- Where the lent words are enough, the code decides as the rules do.
-use mathlib.Core.Bool.{Bool, false, _&&_, cond}
+use mathlib.Core.Bool.{Bool, _&&_, cond}
 use mathlib.Core.List.{List}
 use mathlib.Core.Path.{_≡_, ap, ap₂}
 use Prim.Native.Nat.{ℕ, _*_, _≤_}
@@ -14,7 +14,7 @@ module _ (w : List ℕ) (n o : ℕ) (h : n ≤ 11) (l : 12 * n ≤ length w) whe
   pub decided-enough : (k : Kind) → k .cid .0 ≤ 7 → decidedIn w n o k ≡ decided w n o k
   unfolding decidedIn
   decided-enough k m =
-      ap (λ (b : Bool). cond b (decided w n o k) (record { rule = 0; granted = false }))
+      ap (λ (b : Bool). cond b (decided w n o k) (record { rule = 0; reason = 3 }))
       (ap₂ _&&_ (ap₂ _&&_ (le-leb n 11 h) (le-leb (12 * n) (length w) l)) (le-leb (k .cid .0) 7 m))
 
   pub rights-enough : rightsIn w n o ≡ rightsWord w n o

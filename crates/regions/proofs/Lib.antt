@@ -1,8 +1,14 @@
+pub mod AdmitsTests
 pub mod ByteBits
 pub mod Digits
 pub mod Enough
-pub mod MaskTally
+pub mod Gathered
+pub mod Granted
+pub mod MaskBits
 pub mod NamedBits
+pub mod OneTest
+pub mod Openings
+pub mod Reasons
 pub mod RightsBits
 pub mod RightsBytes
-pub mod Tally
+pub mod SameVerdict

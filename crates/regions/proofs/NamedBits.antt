@@ -1,19 +1,15 @@
 -- The bits that the rules read of a guard's regions: two lists of words that have them alike get the same verdict.
-use mathlib.Core.Bool.{Bool, not, _&&_, _||_}
+use mathlib.Core.Bool.{_&&_}
 use mathlib.Core.List.{List}
-use mathlib.Core.Path.{_≡_, sym, ap, ap₂, _∙_}
+use mathlib.Core.Path.{_≡_, ap, ap₂, _∙_}
 use Prim.Native.Nat.{ℕ, _+_, _<_}
 use lib.ListN.{getD}
 use Rattle.words.specs.Bit.{bit, field}
 use Rattle.words.proofs.Laws.{field-lt}
-use Rattle.access.specs.Fold.{all}
 use Rattle.access.specs.declared.kind.Kind.{Kind}
-use Rattle.access.proofs.Folds.{any-same, all-same}
 use Rattle.regions.specs.Words.{startAt, endAt, cidcfgrAt, base, sub, enableBit, secBit, privcBit, srcidBit, privBit, rdenBit, wrenBit, readBit, writeBit}
-use Rattle.regions.specs.Rules.{covers, counts, baseGrants, srcid, workingSec, workingPriv, opens, decided}
-use Rattle.regions.specs.Tally.{tally, judged}
-use Rattle.regions.specs.declared.rules.Tally.{Tally}
-use Rattle.regions.proofs.Tally.{decided-judged}
+use Rattle.regions.specs.Rules.{covers, counts, srcid, workingPriv, decided}
+use Rattle.regions.proofs.SameVerdict.{BaseSays, SubSays, same-verdict}
 
 -- ---- the bits
 
@@ -54,14 +50,11 @@ module _ {w w′ : List ℕ} (n o : ℕ) (k : Kind) (cid : k .cid .0 < 8) (same 
   counts-same : (x : ℕ) → x < n → (s : ℕ) → s < 2 → counts w o x s ≡ counts w′ o x s
   counts-same x h s l = ap₂ _&&_ (covers-same o (same x h .span)) (covers-same o (same x h .subs s l .span))
 
-  grants-same : (x : ℕ) → x < n → baseGrants w k x ≡ baseGrants w′ k x
-  grants-same x h =
+  bases-same : (x : ℕ) → x < n → BaseSays w w′ k x
+  bases-same x h =
       let r = same x h in
       let c = k .cid .0 in
-      rw (r .sec, r .privc c cid, r .reads c cid, r .writes c cid)
-
-  sec-same : (x : ℕ) → x < n → (s : ℕ) → s < 2 → workingSec w x s ≡ workingSec w′ x s
-  sec-same x h s l = ap₂ _&&_ (same x h .subs s l .sec) (same x h .sec)
+      (rw (r .sec), rw (r .privc c cid), rw (r .reads c cid, r .writes c cid))
 
   priv-same : (x : ℕ) → x < n → (s : ℕ) → s < 2 → workingPriv w x s ≡ workingPriv w′ x s
   priv-same x h s l =
@@ -70,27 +63,10 @@ module _ {w w′ : List ℕ} (n o : ℕ) (k : Kind) (cid : k .cid .0 < 8) (same 
       (same x h .privc (srcid w x s .0) (field-lt (getD w (sub x s) 0) srcidBit 3)
       ∙ ap (λ (c : ℕ). bit (getD w′ (base x) 0) (privcBit c)) (r .source))
 
-  opens-same : (x : ℕ) → x < n → (s : ℕ) → s < 2 → opens w k x s ≡ opens w′ k x s
-  opens-same x h s l = let r = same x h .subs s l in rw (r .source, r .wren, r .rden)
-
-  -- where a subregion does not count, or says the same
-  unless-same : (f g : ℕ → ℕ → Bool) → ((x : ℕ) → x < n → (s : ℕ) → s < 2 → f x s ≡ g x s)
-      → all n (λ x. all 2 (λ s. not (counts w o x s) || f x s)) ≡ all n (λ x. all 2 (λ s. not (counts w′ o x s) || g x s))
-  unless-same f g e =
-      all-same n _ _ (λ x h. all-same 2 _ _ (λ s l. ap₂ (λ (a b : Bool). not a || b) (counts-same x h s l) (e x h s l)))
-
-  tally-same : tally w n o k ≡ tally w′ n o k
-  unfolding tally
-  tally-same =
-      rw (
-        any-same n (λ x. covers w (base x) o) (λ x. covers w′ (base x) o) (λ x h. covers-same o (same x h .span)),
-        all-same n _ _ (λ x h. ap₂ (λ (a b : Bool). not a || b) (covers-same o (same x h .span)) (grants-same x h)),
-        any-same n _ _ (λ x h. any-same 2 _ _ (counts-same x h)),
-        unless-same (workingSec w) (workingSec w′) sec-same,
-        unless-same (workingPriv w) (workingPriv w′) priv-same,
-        any-same n _ _ (λ x h. any-same 2 _ _ (λ s l. ap₂ _&&_ (counts-same x h s l) (opens-same x h s l))),
-      )
+  subs-same : (x : ℕ) → x < n → (s : ℕ) → s < 2 → SubSays w w′ k x s
+  subs-same x h s l =
+      let r = same x h .subs s l in
+      (ap₂ _&&_ (r .sec) (same x h .sec), priv-same x h s l, rw (r .source, r .wren, r .rden))
 
   pub decided-same : decided w n o k ≡ decided w′ n o k
-  decided-same =
-      decided-judged w n o k ∙ ap (λ (t : Tally). judged t k) tally-same ∙ sym (decided-judged w′ n o k)
+  decided-same = same-verdict w w′ n o o k (λ x h. covers-same o (same x h .span)) counts-same bases-same subs-same

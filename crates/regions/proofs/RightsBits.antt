@@ -10,7 +10,7 @@ use Rattle.words.proofs.Laws.{bit-word}
 use Rattle.access.specs.Kind.{kindOf, rightsBit}
 use Rattle.access.specs.declared.kind.Kind.{Kind}
 use Rattle.regions.specs.Rights.{rightsWord}
-use Rattle.regions.specs.Rules.{decided}
+use Rattle.regions.specs.Rules.{decided, granted}
 use Rattle.regions.proofs.Digits.{one-most, one-is}
 
 -- ---- a kind of asking and its place
@@ -42,8 +42,8 @@ kind-place k h = kind-same cid (is 3 (k .write) write) (is 4 (k .privileged) pri
     secure = omega (arith, one-most (k .write), one-most (k .privileged), one-most (k .secure))
 
 pub rights-bit : (w : List ℕ) (n o : ℕ) (k : Kind) → k .cid .0 ≤ 7
-    → bit (rightsWord w n o) (rightsBit k) ≡ decided w n o k .granted
+    → bit (rightsWord w n o) (rightsBit k) ≡ granted (decided w n o k)
 unfolding rightsWord
 rights-bit w n o k h =
-    bit-word 64 (λ b. decided w n o (kindOf b) .granted) (rightsBit k) (place-lt k h)
-    ∙ ap (λ (q : Kind). decided w n o q .granted) (kind-place k h)
+    bit-word 64 (λ b. granted (decided w n o (kindOf b))) (rightsBit k) (place-lt k h)
+    ∙ ap (λ (q : Kind). granted (decided w n o q)) (kind-place k h)

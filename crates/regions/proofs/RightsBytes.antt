@@ -1,28 +1,25 @@
 -- The rights word is made of bytes, each worked out at once for all compartments.
-use mathlib.Core.Bool.{Bool, true, false, not, _&&_, _||_, cond, Bool·beq, and-true, and-comm, or-false, or-comm}
+use mathlib.Core.Bool.{Bool, true, false, not, _&&_, _||_, and-comm}
 use mathlib.Core.List.{List}
-use mathlib.Core.Path.{_≡_, refl, sym, ap, ap₂, _∙_, subst}
-use Prim.Native.Nat.{ℕ, zero, suc, _+_, _-_, _*_, _/_, _%_, _^_, _<_}
+use mathlib.Core.Path.{_≡_, sym, ap, ap₂, _∙_, subst}
+use Prim.Native.Nat.{ℕ, zero, suc, _+_, _-_, _*_, _%_, _^_, _<_}
 use native.Mathlib.Nat.{add-assoc, add-mul, mul-assoc, mul-comm, mod-lt}
 use native.Mathlib.Numerals.{unary-clauses}
 use native.Mathlib.Omega.{arith}
-use lib.Bits.{bitAnd, bitOr}
-use lib.Dec.{eqb}
+use lib.Bits.{bitAnd}
 use lib.Pow.{pow-add}
 use Rattle.words.specs.Bit.{bit, one, word}
-use Rattle.words.proofs.Laws.{bit-mod, bit-pow, bit-shr, bit-word, bit-zero, word-cong, word-ext, word-lt, word-zero}
-use Rattle.words.proofs.Ops.{bit-and, bit-not, bit-or}
+use Rattle.words.proofs.Laws.{bit-mod, bit-zero, word-cong, word-ext, word-lt}
+use Rattle.words.proofs.Ops.{bit-and, bit-not}
 use Rattle.access.specs.Kind.{kindOf, rightsBit}
 use Rattle.access.specs.declared.kind.Kind.{Kind}
-use Rattle.regions.specs.Masks.{masks, tallyOf, rightsFrom, byteAt, openTo}
+use Rattle.regions.specs.Admits.{admitted, admitsSecurity, openTo, testsOf, verdictOf, rightsFrom, byteAt, byteOf}
 use Rattle.regions.specs.Rights.{rightsWord}
-use Rattle.regions.specs.Tally.{judged}
-use Rattle.regions.specs.declared.masks.Masks.{Masks}
-use Rattle.regions.specs.declared.rules.Tally.{Tally}
-use Rattle.regions.specs.declared.rules.Verdict.{Verdict}
-use Rattle.regions.proofs.MaskTally.{cond-same, masks-tally}
+use Rattle.regions.specs.Rules.{granted}
+use Rattle.regions.specs.declared.admits.Admits.{Admits}
+use Rattle.regions.proofs.AdmitsTests.{verdict-is}
+use Rattle.regions.proofs.Granted.{all-pass}
 use Rattle.regions.proofs.RightsBits.{kind-place}
-use Rattle.regions.proofs.Tally.{decided-judged}
 
 -- ---- parts of the word
 
@@ -38,17 +35,17 @@ word-join n (suc k) p =
     ∙ ap (λ (x : ℕ). one (p (n + k)) * x) (mul-comm (2 ^ k) (2 ^ n) ∙ sym (pow-add 2 n k)))
     (word-join n k p))
 
-module _ (m : Masks) where
+module _ (a : Admits) where
   abbrev grants : Kind → Bool
-  grants k = judged (tallyOf m k) k .granted
+  grants k = granted (verdictOf a k)
 
-  pub rights-lt : (at n : ℕ) {r : ℕ} → r ≡ rightsFrom m at n → r < 2 ^ n
+  pub rights-lt : (at n : ℕ) {r : ℕ} → r ≡ rightsFrom a at n → r < 2 ^ n
   unfolding rightsFrom
   rights-lt at n e = subst (λ (x : ℕ). x < 2 ^ n) (sym e) (word-lt n _)
 
   -- the code's two parts, one above the other
-  pub rights-join : (at up n k : ℕ) {lo hi : ℕ} → up ≡ at + n → hi ≡ rightsFrom m up k → lo ≡ rightsFrom m at n
-      → hi * 2 ^ n + lo ≡ rightsFrom m at (n + k)
+  pub rights-join : (at up n k : ℕ) {lo hi : ℕ} → up ≡ at + n → hi ≡ rightsFrom a up k → lo ≡ rightsFrom a at n
+      → hi * 2 ^ n + lo ≡ rightsFrom a at (n + k)
   unfolding rightsFrom
   rights-join at up n k e eh el =
       ap₂ (λ (h l : ℕ). h * 2 ^ n + l)
@@ -56,94 +53,47 @@ module _ (m : Masks) where
       ∙ word-join n k (λ i. grants (kindOf (at + i)))
 
 -- the theorem: each bit is the verdict on its kind of asking
-pub rights-masks : (w : List ℕ) (n o : ℕ) → rightsFrom (masks w n o) 0 64 ≡ rightsWord w n o
+pub rights-admitted : (w : List ℕ) (n o : ℕ) → rightsFrom (admitted w n o) 0 64 ≡ rightsWord w n o
 unfolding rightsFrom rightsWord
-rights-masks w n o =
+rights-admitted w n o =
     word-cong 64 _ _
     (λ b h.
     let e : 0 + b ≡ b = omega arith in
-    ap (λ (i : ℕ). grants (masks w n o) (kindOf i)) e
-    ∙ ap (λ (t : Tally). judged t (kindOf b) .granted) (masks-tally (kindOf b) w n o (omega arith))
-    ∙ sym (ap (λ (v : Verdict). v .granted) (decided-judged w n o (kindOf b))))
+    ap (λ (i : ℕ). grants (admitted w n o) (kindOf i)) e ∙ ap granted (verdict-is w n o (kindOf b) (omega arith)))
 
 -- ---- the compartments of a byte
 
-module _ (reads writes closed : ℕ) (write : Bool) where
-  pub open-none : (may : Bool) → may ≡ false → 0 ≡ openTo reads writes closed write may
-  unfolding openTo
-  open-none may e =
-      sym (word-zero 8 _ (λ c h. ap (λ (b : Bool). b && not (bit closed c) && cond write (bit writes c) (bit reads c)) e))
-
-  pub open-some : (may b : Bool) → may ≡ true → write ≡ b → closed < 2 ^ 32
-      → bitAnd (cond b writes reads) ((2 ^ 32 - 1) - closed) % 256 ≡ openTo reads writes closed write may
-  unfolding openTo
-  open-some may b e f l =
-      word-ext 8 _ _ (mod-lt _ (omega arith))
-      (λ c h.
-      bit-mod 8 _ c h ∙ bit-and (cond b writes reads) _ c
-      ∙ ap₂ _&&_ (chosen b c) (bit-not 32 closed c l (omega arith))
-      ∙ and-comm (cond b (bit writes c) (bit reads c)) (not (bit closed c))
-      ∙ sym (ap₂ (λ (d t : Bool). d && not (bit closed c) && cond t (bit writes c) (bit reads c)) e f))
-    where
-      chosen : (t : Bool) (c : ℕ) → bit (cond t writes reads) c ≡ cond t (bit writes c) (bit reads c)
-      chosen true c = refl
-      chosen false c = refl
-
--- ---- a byte, by the rule that governs
-
-cid-of-rule-0 : (c : ℕ) → c < 8 → bit 0x82 c ≡ (eqb c 1 || eqb c 7)
-cid-of-rule-0 = bit-word 8 (λ c. eqb c 1 || eqb c 7)
-
-sec-is : (s a b : Bool) → (s && a || not (s || b)) ≡ cond s a (not b)
-sec-is true a b = simp or-false
-sec-is false a b = refl
-
-privileged-is : (p : Bool) (x c : ℕ) → not (bit (cond p 0 (x / 2 ^ 16)) c) ≡ (p || not (bit x (16 + c)))
-privileged-is true x c = ap not (bit-zero c)
-privileged-is false x c = ap not (bit-shr x 16 c)
-
-enabled-is : (w : Bool) (x c : ℕ)
-    → cond w (bit (bitOr (x / 2 ^ 16) 0x80) c) (bit (bitOr x 0x80) c) ≡ (eqb c 7 || cond w (bit x (16 + c)) (bit x c))
-enabled-is true x c =
-    bit-or (x / 2 ^ 16) 0x80 c ∙ ap₂ _||_ (bit-shr x 16 c) (bit-pow 7 c) ∙ or-comm (bit x (16 + c)) (eqb c 7)
-enabled-is false x c = bit-or x 0x80 c ∙ ap (λ (b : Bool). bit x c || b) (bit-pow 7 c) ∙ or-comm (bit x c) (eqb c 7)
-
-module _ (m : Masks) (w p s : Bool) where
+module _ (a : Admits) (w p s : Bool) where
   abbrev asking : ℕ → Kind
   asking c = record { cid = record { 0 = c }; write = w; privileged = p; secure = s }
 
-  byte-by : (reads writes closed : ℕ) (may : Bool)
-      → ((c : ℕ) → c < 8
-      → (may && not (bit closed c) && cond w (bit writes c) (bit reads c))
-      ≡ judged (tallyOf m (asking c)) (asking c) .granted)
-      → openTo reads writes closed w may ≡ rightsFrom m (byteAt w p s) 8
-  unfolding rightsFrom openTo
-  byte-by reads writes closed may h =
-      word-cong 8 _ _
-      (λ c l.
+  byte-by : (x : ℕ) → x < 2 ^ 8
+      → ((c : ℕ) → c < 8 → bit x c ≡ (admitsSecurity a s && (p || not (bit (a .closed) c)) && bit (openTo a w) c))
+      → x ≡ byteOf a w p s
+  unfolding rightsFrom verdictOf testsOf
+  byte-by x l each =
+      word-ext 8 x _ l
+      (λ c h.
       let e : byteAt w p s + c ≡ rightsBit (asking c) = omega arith in
-      h c l ∙ ap (grants m) (sym (ap kindOf e ∙ kind-place (asking c) (omega arith))))
+      each c h ∙ sym (all-pass (testsOf a (asking c))) ∙ ap (grants a) (sym (ap kindOf e ∙ kind-place (asking c) (omega arith))))
 
-  pub byte-subs : m .counted ≡ true
-      → openTo (m .reads) (m .writes) 0 w (Bool·beq s (m .secure) && (p || not (m .privileged)))
-      ≡ rightsFrom m (byteAt w p s) 8
-  unfolding tallyOf judged
-  byte-subs e = byte-by _ _ _ _ (λ c l. simp (e, bit-zero, and-true))
+  pub byte-none : admitsSecurity a s ≡ false → 0 ≡ byteOf a w p s
+  byte-none e =
+      byte-by 0 (omega arith) (λ c h. bit-zero c ∙ sym (ap (λ (b : Bool). b && (p || not (bit (a .closed) c)) && bit (openTo a w) c) e))
 
-  pub byte-none : m .counted ≡ false → m .covered ≡ false
-      → openTo 0x82 0x82 0 w (s && p) ≡ rightsFrom m (byteAt w p s) 8
-  unfolding tallyOf judged
-  byte-none e f = byte-by _ _ _ _ (λ c l. simp (e, f, bit-zero, and-true, cond-same, cid-of-rule-0 c l))
+  pub byte-privileged : admitsSecurity a s ≡ true → p ≡ true → openTo a w % 2 ^ 8 ≡ byteOf a w p s
+  byte-privileged e f =
+      byte-by (openTo a w % 2 ^ 8) (mod-lt _ (omega arith))
+      (λ c h.
+      bit-mod 8 (openTo a w) c h
+      ∙ sym (ap₂ (λ (b q : Bool). b && (q || not (bit (a .closed) c)) && bit (openTo a w) c) e f))
 
-  pub byte-bases : {shut : ℕ} → m .counted ≡ false → m .covered ≡ true → shut ≡ cond p 0 (m .cfgr / 2 ^ 16)
-      → openTo (bitOr (m .cidcfgr) 0x80) (bitOr (m .cidcfgr / 2 ^ 16) 0x80) shut w
-      (s && m .sec || not (s || bit (m .cfgr) 8))
-      ≡ rightsFrom m (byteAt w p s) 8
-  unfolding tallyOf judged
-  byte-bases e f g =
-      byte-by _ _ _ _
-      (λ c l.
-      simp (e, f)
-      (ap₂ _&&_
-      (ap₂ _&&_ (sec-is s (m .sec) (bit (m .cfgr) 8)) (ap (λ (x : ℕ). not (bit x c)) g ∙ privileged-is p (m .cfgr) c))
-      (enabled-is w (m .cidcfgr) c)))
+  pub byte-unprivileged : admitsSecurity a s ≡ true → p ≡ false → a .closed < 2 ^ 32
+      → bitAnd (openTo a w) ((2 ^ 32 - 1) - a .closed) % 2 ^ 8 ≡ byteOf a w p s
+  byte-unprivileged e f l =
+      byte-by _ (mod-lt _ (omega arith))
+      (λ c h.
+      bit-mod 8 _ c h ∙ bit-and (openTo a w) _ c
+      ∙ ap (λ (b : Bool). bit (openTo a w) c && b) (bit-not 32 (a .closed) c l (omega arith))
+      ∙ and-comm (bit (openTo a w) c) (not (bit (a .closed) c))
+      ∙ sym (ap₂ (λ (b q : Bool). b && (q || not (bit (a .closed) c)) && bit (openTo a w) c) e f))

@@ -1,5 +1,5 @@
 -- The rules over words that a caller lends, which may be too few.
-use mathlib.Core.Bool.{Bool, false, _&&_, cond}
+use mathlib.Core.Bool.{Bool, _&&_, cond}
 use mathlib.Core.List.{List}
 use Prim.Native.Nat.{ℕ}
 use lib.Dec.{leb}
@@ -15,9 +15,9 @@ use Rattle.regions.specs.declared.rules.Verdict.{Verdict}
 abbrev pub enough : List ℕ → ℕ → Bool
 enough w n = leb n mostRegions && leb (base n) (length w)
 
--- too few words, or a CID over 7: rule 0, not granted
+-- too few words, or a CID over 7: rule 0, refused for the compartment
 unfoldable pub decidedIn : List ℕ → ℕ → ℕ → Kind → Verdict
-decidedIn w n o k = cond (enough w n && isCid (k .cid)) (decided w n o k) (record { rule = 0; granted = false })
+decidedIn w n o k = cond (enough w n && isCid (k .cid)) (decided w n o k) (record { rule = 0; reason = 3 })
 
 -- too few words: no rights
 unfoldable pub rightsIn : List ℕ → ℕ → ℕ → ℕ

@@ -1,13 +1,15 @@
 -- What the regions of a guard grant.
 --     Words     meaning: where the words and bits of a region are
---     Rules     meaning: which rule governs an offset, and whether it grants; document 01, "Which rule governs"
+--     Rules     meaning: which rule governs an offset, and which of its tests fails first; document 01, "Which rule governs", and Q-5
+--     Grants    meaning: what the rules grant, as document 01 says it; proofs/Granted has the law that this is "no test fails"
 --     Rights    meaning: the rights word of an offset
 --     Lent      meaning: the same over words that may be too few
---     Tally     what the code of the rules goes by; proofs/Tally has the law that it is Rules
---     Masks     what the code of the rights word goes by; proofs/RightsBytes has the law that it is Rights
+--     Masks     what the code gathers of the regions
+--     Admits    the tests, as the code makes them of that; proofs/AdmitsTests has the law that they are Rules
 pub mod Words
 pub mod Rules
+pub mod Grants
 pub mod Rights
 pub mod Lent
-pub mod Tally
 pub mod Masks
+pub mod Admits

@@ -3,7 +3,7 @@ use mathlib.Core.List.{List}
 use Prim.Native.Nat.{ℕ}
 use Rattle.words.specs.Bit.{word}
 use Rattle.access.specs.Kind.{kindOf}
-use Rattle.regions.specs.Rules.{decided}
+use Rattle.regions.specs.Rules.{decided, granted}
 
 unfoldable pub rightsWord : List ℕ → ℕ → ℕ → ℕ
-rightsWord w n o = word 64 (λ b. decided w n o (kindOf b) .granted)
+rightsWord w n o = word 64 (λ b. granted (decided w n o (kindOf b)))

@@ -1,8 +1,10 @@
--- Which rule governs an offset, and whether it grants a kind of asking: document 01, "Which rule governs".
+-- Which rule governs an offset, and which of its tests a kind of asking fails: document 01, "Which rule governs", and document 02, Q-5,
+-- "Each test is made over all governing regions before the next begins, and the first that fails is the reason".
 -- w are the words of a guard's regions, n its count of base regions, o the offset, k the kind of asking.
 use mathlib.Core.Bool.{Bool, not, _&&_, _||_, cond, Bool·beq}
 use mathlib.Core.List.{List}
 use Prim.Native.Nat.{ℕ, _+_}
+use lib.Dec.{eqb}
 use lib.ListN.{getD}
 use Rattle.words.specs.Bit.{bit, field}
 use Rattle.access.specs.Fold.{any, all}
@@ -31,27 +33,56 @@ passes k = equals (k .cid) debugger
 abbrev pub direction : Kind → Bool → Bool → Bool
 direction k writes reads = cond (k .write) writes reads
 
+-- ---- the tests of a rule, in their order: whether an asking passes each
+
+pub record Tests : Type 0 where
+  pub security : Bool
+  pub privilege : Bool
+  -- and the direction
+  pub compartment : Bool
+
+-- the first that fails: 1 security, 2 privilege, 3 compartment or direction; 0 where none does
+abbrev pub reasonOf : Tests → ℕ
+reasonOf t = cond (t .security) (cond (t .privilege) (cond (t .compartment) 0 3) 2) 1
+
 -- ---- rule 0
 
 -- secure, privileged, CID 1
-abbrev pub grants0 : Kind → Bool
-grants0 k = k .secure && k .privileged && (equals (k .cid) (record { 0 = 1 }) || passes k)
+abbrev pub tests0 : Kind → Tests
+tests0 k =
+    record {
+      security = k .secure;
+      privilege = k .privileged;
+      compartment = equals (k .cid) (record { 0 = 1 }) || passes k;
+    }
 
 -- ---- rule 1
 
--- a base region with these words grants: secure equals SEC; privileged or PRIVC of the CID is 0; the enable for CID and direction is 1
-abbrev pub wordsGrant : ℕ → ℕ → Kind → Bool
-wordsGrant cfgr cidcfgr k =
-    Bool·beq (k .secure) (bit cfgr secBit)
-    && (k .privileged || not (bit cfgr (privcBit (k .cid .0))))
-    && (passes k || direction k (bit cidcfgr (writeBit (k .cid .0))) (bit cidcfgr (readBit (k .cid .0))))
+-- every enabled base region that covers
+abbrev pub everyBase : List ℕ → ℕ → ℕ → (ℕ → Bool) → Bool
+everyBase w n o q = all n (λ x. not (covers w (base x) o) || q x)
 
-abbrev pub baseGrants : List ℕ → Kind → ℕ → Bool
-baseGrants w k x = wordsGrant (getD w (base x) 0) (getD w (base x + cidcfgrAt) 0) k
+-- secure equals SEC
+abbrev pub secEqual : List ℕ → Kind → ℕ → Bool
+secEqual w k x = Bool·beq (k .secure) (bit (getD w (base x) 0) secBit)
 
--- every enabled covering base region must grant
-abbrev pub grants1 : List ℕ → ℕ → ℕ → Kind → Bool
-grants1 w n o k = all n (λ x. not (covers w (base x) o) || baseGrants w k x)
+-- privileged or PRIVC of the CID is 0
+abbrev pub privcPassed : List ℕ → Kind → ℕ → Bool
+privcPassed w k x = k .privileged || not (bit (getD w (base x) 0) (privcBit (k .cid .0)))
+
+-- the enable for CID and direction is 1
+abbrev pub enabledFor : List ℕ → Kind → ℕ → Bool
+enabledFor w k x =
+    let cidcfgr = getD w (base x + cidcfgrAt) 0 in
+    passes k || direction k (bit cidcfgr (writeBit (k .cid .0))) (bit cidcfgr (readBit (k .cid .0)))
+
+abbrev pub tests1 : List ℕ → ℕ → ℕ → Kind → Tests
+tests1 w n o k =
+    record {
+      security = everyBase w n o (secEqual w k);
+      privilege = everyBase w n o (privcPassed w k);
+      compartment = everyBase w n o (enabledFor w k);
+    }
 
 -- ---- rule 2
 
@@ -72,24 +103,42 @@ opens w k x s =
     (equals (srcid w x s) (k .cid) || passes k)
     && direction k (bit (getD w (sub x s) 0) wrenBit) (bit (getD w (sub x s) 0) rdenBit)
 
--- some, and every, subregion of n base regions
-abbrev pub anySub : ℕ → (ℕ → ℕ → Bool) → Bool
-anySub n q = any n (λ x. any 2 (q x))
+-- some, and every, subregion that counts
+abbrev pub someSub : List ℕ → ℕ → ℕ → (ℕ → ℕ → Bool) → Bool
+someSub w n o q = any n (λ x. any 2 (λ s. counts w o x s && q x s))
 
-abbrev pub allSub : ℕ → (ℕ → ℕ → Bool) → Bool
-allSub n q = all n (λ x. all 2 (q x))
+abbrev pub everySub : List ℕ → ℕ → ℕ → (ℕ → ℕ → Bool) → Bool
+everySub w n o q = all n (λ x. all 2 (λ s. not (counts w o x s) || q x s))
 
--- over all that count: the security is "all working SEC are 1"; privileged, or not all working PRIV are 1; at least one opens
-abbrev pub grants2 : List ℕ → ℕ → ℕ → Kind → Bool
-grants2 w n o k =
-    Bool·beq (k .secure) (allSub n (λ x s. not (counts w o x s) || workingSec w x s))
-    && (k .privileged || not (allSub n (λ x s. not (counts w o x s) || workingPriv w x s)))
-    && anySub n (λ x s. counts w o x s && opens w k x s)
+-- secure equals "all working SEC are 1"; privileged, or not all working PRIV are 1; at least one opens
+abbrev pub tests2 : List ℕ → ℕ → ℕ → Kind → Tests
+tests2 w n o k =
+    record {
+      security = Bool·beq (k .secure) (everySub w n o (workingSec w));
+      privilege = k .privileged || not (everySub w n o (workingPriv w));
+      compartment = someSub w n o (opens w k);
+    }
 
--- ---- the rule that governs, and whether it grants
+-- ---- the rule that governs
 
+-- some subregion counts, some enabled base region covers
+abbrev pub counted : List ℕ → ℕ → ℕ → Bool
+counted w n o = any n (λ x. any 2 (counts w o x))
+
+abbrev pub covered : List ℕ → ℕ → ℕ → Bool
+covered w n o = any n (λ x. covers w (base x) o)
+
+abbrev pub ruleOf : List ℕ → ℕ → ℕ → ℕ
+ruleOf w n o = cond (counted w n o) 2 (cond (covered w n o) 1 0)
+
+-- its tests
+unfoldable pub tests : List ℕ → ℕ → ℕ → Kind → Tests
+tests w n o k = cond (counted w n o) (tests2 w n o k) (cond (covered w n o) (tests1 w n o k) (tests0 k))
+
+-- the verdict: the rule, and the reason
 unfoldable pub decided : List ℕ → ℕ → ℕ → Kind → Verdict
-decided w n o k =
-    cond (anySub n (counts w o)) (record { rule = 2; granted = grants2 w n o k })
-    (cond (any n (λ x. covers w (base x) o)) (record { rule = 1; granted = grants1 w n o k })
-    (record { rule = 0; granted = grants0 k }))
+decided w n o k = record { rule = ruleOf w n o; reason = reasonOf (tests w n o k) }
+
+-- granted: no test fails
+abbrev pub granted : Verdict → Bool
+granted v = eqb (v .reason) 0

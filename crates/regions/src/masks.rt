@@ -1,48 +1,54 @@
 use crate::places::BASE_WORDS;
 use crate::places::CIDCFGR;
 use crate::places::COMPARTMENTS;
+use crate::places::ENABLE;
+use crate::places::END;
 use crate::places::PRIV;
 use crate::places::PRIVC;
 use crate::places::RDEN;
 use crate::places::REGION_WORDS;
-use crate::places::SEC;
 use crate::places::SRCID;
+use crate::places::START;
 use crate::places::SUBREGION_WORDS;
 use crate::places::WREN;
-use crate::rules::covers;
 use access::Cid;
-use access::DEBUGGER;
 ghost use mathlib.Core.Path.{_≡_};
 ghost use Prim.Native.Nat.{_+_, _*_, _≤_, _<_};
 ghost use lib.ListN.{length};
-ghost use Rattle.regions.specs.Words.{base, regionWords};
-ghost use Rattle.regions.specs.Masks.{baseGathered, masks, subGathered, withSrcid};
+ghost use Rattle.regions.specs.Words.{base, endAt, regionWords};
+ghost use Rattle.regions.specs.Rules.{covers};
+ghost use Rattle.regions.specs.Masks.{Next, Passed, baseGathered, masks, opening, subGathered};
 
-// What the base regions that were looked at say to all eight compartments: bit c of a mask is CID c.
+// What the base regions that cover say, of those that were looked at.
 pub(crate) struct Masks {
-    // Some of them covers; of all that do, SEC is 1; the bits that some CFGR has, and every CIDCFGR.
-    pub(crate) covered: bool,
-    pub(crate) sec: bool,
-    pub(crate) cfgr: u32,
-    pub(crate) cidcfgr: u32,
-    // Some subregion counts; of all that do, the working SEC is 1, and the working PRIV; the compartments that some
-    // one opens to.
-    pub(crate) counted: bool,
-    pub(crate) secure: bool,
-    pub(crate) privileged: bool,
-    pub(crate) reads: u32,
-    pub(crate) writes: u32,
+    // The bits that some CFGR has, and every one; those that every CIDCFGR has.
+    pub(crate) some: u32,
+    pub(crate) every: u32,
+    pub(crate) enables: u32,
+    // Of the subregions that count: at SEC, that the working SEC of all is 1; at bit 0, that the working PRIV of all is.
+    pub(crate) secure: u32,
+    pub(crate) privileged: u32,
+    // The SRCIDs of those that enable reads, from bit 0; of all that count, from bit 8; of those that enable writes, from bit 16.
+    pub(crate) opens: u32,
 }
 
-// The mask with the compartment of a SRCID, and CID 7, where the direction is enabled.
-fn with_srcid(mask: u32, srcid: Cid, enabled: bool) -> u32
-    requires { ⌜ srcid .0 < 8 ⌝ }
-    ensures { λ r. ⌜ r ≡ withSrcid mask (srcid .0) enabled ⌝ }
+// The region or subregion at p is enabled and covers the offset.
+pub(crate) fn covers(w: &[u32], p: usize, o: u32) -> bool
+    requires { ⌜ p + endAt < length (now w) ⌝ }
+    ensures { λ r. ⌜ r ≡ covers (now (w .entry)) p o ⌝ }
 {
-    if !enabled {
-        return mask;
+    if (w[p] >> ENABLE) % 2 != 1 {
+        return false;
     }
-    mask | (1 << srcid.0) | (1 << DEBUGGER.0)
+    (w[p + START] <= o) & (o <= w[p + END])
+}
+
+// The bits of `opens` that a subregion with this CFGR and SRCID has.
+fn opening(cfgr: u32, srcid: Cid) -> u32
+    requires { ⌜ srcid .0 < 8 ⌝ }
+    ensures { λ r. ⌜ r ≡ opening cfgr (srcid .0) ⌝ }
+{
+    ((cfgr >> RDEN) % 2 + 0x100 + (cfgr >> WREN) % 2 * 0x1_0000) << srcid.0
 }
 
 // With what subregion s of base region x, which covers, says.
@@ -57,19 +63,14 @@ fn sub_gathered(w: &[u32], x: usize, s: usize, o: u32, m: Masks) -> Masks
     let base = w[REGION_WORDS * x];
     let sub = w[p];
     let srcid = Cid((sub >> SRCID) % COMPARTMENTS);
-    let reads = with_srcid(m.reads, srcid, (sub >> RDEN) % 2 == 1);
-    let writes = with_srcid(m.writes, srcid, (sub >> WREN) % 2 == 1);
+    let opens = m.opens | opening(sub, srcid);
     Masks {
-        covered: m.covered,
-        sec: m.sec,
-        cfgr: m.cfgr,
-        cidcfgr: m.cidcfgr,
-        counted: true,
-        secure: m.secure & (((sub >> SEC) % 2 == 1) & ((base >> SEC) % 2 == 1)),
-        privileged: m.privileged
-            & (((sub >> PRIV) % 2 == 1) & ((base >> (PRIVC + srcid.0)) % 2 == 1)),
-        reads,
-        writes,
+        some: m.some,
+        every: m.every,
+        enables: m.enables,
+        secure: m.secure & (sub & base),
+        privileged: m.privileged & ((sub >> PRIV) & ((base >> srcid.0) >> PRIVC)),
+        opens,
     }
 }
 
@@ -84,36 +85,45 @@ fn base_gathered(w: &[u32], x: usize, o: u32, m: Masks) -> Masks
     }
     let cfgr = w[b];
     let based = Masks {
-        covered: true,
-        sec: m.sec & ((cfgr >> SEC) % 2 == 1),
-        cfgr: m.cfgr | cfgr,
-        cidcfgr: m.cidcfgr & w[b + CIDCFGR],
-        counted: m.counted,
+        some: m.some | cfgr,
+        every: m.every & cfgr,
+        enables: m.enables & w[b + CIDCFGR],
         secure: m.secure,
         privileged: m.privileged,
-        reads: m.reads,
-        writes: m.writes,
+        opens: m.opens,
     };
     sub_gathered(w, x, 1, o, sub_gathered(w, x, 0, o, based))
 }
 
-// What the first n base regions say.
-pub(crate) fn gathered(w: &[u32], n: usize, o: u32) -> Masks
-    requires { ⌜ base n ≤ length (now w) ⌝ }
+// The next base region from `from` on that covers the offset, or n.
+pub(crate) fn next_covering(w: &[u32], from: usize, n: usize, o: u32) -> usize
+    requires { ⌜ (from ≤ n) × (base n ≤ length (now w)) ⌝ }
+    ensures { λ r. ⌜ Next (now (w .entry)) o from n r ⌝ }
+{
+    let mut x = from;
+    while x < n {
+        if covers(w, REGION_WORDS * x, o) {
+            return x;
+        }
+        x += 1;
+    }
+    x
+}
+
+// What the first n base regions say: none below `from` covers.
+pub(crate) fn gathered(w: &[u32], from: usize, n: usize, o: u32) -> Masks
+    requires { ⌜ (from ≤ n) × (base n ≤ length (now w)) × Passed (now w) o 0 from ⌝ }
     ensures { λ r. ⌜ r ≡ masks (now (w .entry)) n o ⌝ }
 {
     let mut m = Masks {
-        covered: false,
-        sec: true,
-        cfgr: 0,
-        cidcfgr: 0xffff_ffff,
-        counted: false,
-        secure: true,
-        privileged: true,
-        reads: 0,
-        writes: 0,
+        some: 0,
+        every: 0xffff_ffff,
+        enables: 0xffff_ffff,
+        secure: 0xffff_ffff,
+        privileged: 0xffff_ffff,
+        opens: 0,
     };
-    for x in 0..n {
+    for x in from..n {
         m = base_gathered(w, x, o, m);
     }
     m

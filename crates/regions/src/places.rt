@@ -36,7 +36,9 @@ pub const RDEN: u32 = 12;
 
 pub const WREN: u32 = 13;
 
-// ---- bits of CIDCFGR: the read enables of the compartments from bit 0, the write enables from here
+// ---- bits of CIDCFGR: the read enables of the compartments from here, the write enables from here
+
+pub const READS: u32 = 0;
 
 pub const WRITES: u32 = 16;
 

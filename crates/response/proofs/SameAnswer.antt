@@ -7,8 +7,7 @@ use lib.Dec.{lit<}
 use Rattle.words.specs.Bit.{bit, masked, united}
 use Rattle.words.proofs.Laws.{word-lt}
 use Rattle.access.specs.Answer.{numberOf, valueOf}
-use Rattle.access.specs.Checks.{unless, answered, reached}
-use Rattle.access.specs.Fold.{any}
+use Rattle.access.specs.Checks.{unless, answeredWith, reachedWith}
 use Rattle.access.specs.Request.{gives}
 use Rattle.access.specs.declared.answer.Answer.{Answer}
 use Rattle.access.specs.declared.answer.Answer.the-variants.{Rejected}
@@ -19,13 +18,12 @@ use Rattle.access.specs.declared.request.Request.{Request}
 use Rattle.rifsc.specs.Port.{readOf as rifsc-readOf, answerOf as rifsc-answerOf, stepped as rifsc-stepped}
 use Rattle.iac.specs.Port.{readOf as iac-readOf, answerOf as iac-answerOf, stepped as iac-stepped}
 use Rattle.risaf.specs.Port.{readOf, answerOf, accessed, stepped}
+use Rattle.risaf.specs.Guards.{shapeOf}
 use Rattle.risaf.specs.Memory.{memoryAnswer, memoryStepped}
-use Rattle.regions.specs.Rules.{anySub, counts, covers, grants0, grants1, grants2, decided}
-use Rattle.regions.specs.Words.{base}
-use Rattle.regions.specs.declared.rules.Verdict.{Verdict}
+use Rattle.regions.specs.Rules.{Tests, reasonOf, counted, covered, ruleOf, tests, decided}
 use Rattle.device.specs.Applied.{sized, appliedAnswer}
 use Rattle.device.specs.Layout.{stateOf}
-use Rattle.device.specs.State.{State}
+use Rattle.device.specs.State.{State, guardOf}
 use Rattle.device.specs.Step.{registerStep, peripheralStep, memoryStep, step}
 use Rattle.device.specs.declared.event.Block.{Block}
 use Rattle.device.specs.declared.event.Block.the-variants.{Rifsc, Iac, Risaf}
@@ -41,15 +39,15 @@ unless-few : (b : Bool) (refusal rest : Answer) → valueOf refusal < 2 ^ 32 →
 unless-few true refusal rest h k = k
 unless-few false refusal rest h k = h
 
-answered-few : (c : Checks) (v : ℕ) → v < 2 ^ 32 → valueOf (answered c v) < 2 ^ 32
-unfolding answered reached
-answered-few c v h =
+answered-few : (c : Checks) (v r : ℕ) → v < 2 ^ 32 → r < 2 ^ 32 → valueOf (answeredWith c v r) < 2 ^ 32
+unfolding answeredWith reachedWith
+answered-few c v r h l =
     unless-few (c .present) _ _ (lit< tt)
     (unless-few (c .aligned) _ _ (lit< tt)
     (unless-few (c .inside) _ _ (lit< tt)
     (unless-few (c .fetchless) _ _ (lit< tt)
     (unless-few (c .known) _ _ (lit< tt)
-    (unless-few (c .allowed) _ _ (lit< tt)
+    (unless-few (c .allowed) _ _ l
     (unless-few (c .direction) _ _ (lit< tt)
     (unless-few (c .unlocked) _ _ (lit< tt) h)))))))
 
@@ -60,18 +58,23 @@ gives-few q w h = go (q .write)
     go true = lit< tt
     go false = h
 
--- the rules are 0, 1 and 2
-rule-few : (w : List ℕ) (n o : ℕ) (k : Kind) → decided w n o k .rule < 2 ^ 32
-unfolding decided
-rule-few w n o k =
-    go (anySub n (counts w o)) (any n (λ x. covers w (base x) o)) (grants2 w n o k) (grants1 w n o k) (grants0 k)
+-- the rules are 0, 1 and 2, the reasons at most 3
+rule-few : (w : List ℕ) (n o : ℕ) → ruleOf w n o < 2 ^ 32
+rule-few w n o = go (counted w n o) (covered w n o)
   where
-    go : (b c x y z : Bool)
-        → (cond {A = Verdict} b (record { rule = 2; granted = x }) (cond c (record { rule = 1; granted = y }) (record { rule = 0; granted = z }))) .rule
-        < 2 ^ 32
-    go true c x y z = lit< tt
-    go false true x y z = lit< tt
-    go false false x y z = lit< tt
+    go : (b c : Bool) → cond b 2 (cond c 1 0) < 2 ^ 32
+    go true c = lit< tt
+    go false true = lit< tt
+    go false false = lit< tt
+
+reason-few : (t : Tests) → reasonOf t < 2 ^ 32
+reason-few t = go (t .security) (t .privilege) (t .compartment)
+  where
+    go : (a b c : Bool) → cond a (cond b (cond c 0 3) 2) 1 < 2 ^ 32
+    go true true true = lit< tt
+    go true true false = lit< tt
+    go true false c = lit< tt
+    go false b c = lit< tt
 
 masked-few : (x mask : ℕ) → masked 32 x mask < 2 ^ 32
 unfolding masked
@@ -83,19 +86,22 @@ united-few x y = word-lt 32 (λ i. bit x i || bit y i)
 
 register-few : (b : Block) (q : Request) (s : State) → valueOf (registerStep b q s .answer) < 2 ^ 32
 unfolding registerStep rifsc-stepped rifsc-answerOf rifsc-readOf iac-stepped iac-answerOf iac-readOf stepped accessed answerOf readOf
-register-few Rifsc q s = answered-few _ _ (gives-few q _ (united-few _ _))
-register-few Iac q s = answered-few _ _ (gives-few q _ (united-few _ _))
-register-few (Risaf n) q s = answered-few _ _ (gives-few q _ (masked-few _ _))
+register-few Rifsc q s = answered-few _ _ 0 (gives-few q _ (united-few _ _)) (lit< tt)
+register-few Iac q s = answered-few _ _ 0 (gives-few q _ (united-few _ _)) (lit< tt)
+register-few (Risaf n) q s = answered-few _ _ 0 (gives-few q _ (masked-few _ _)) (lit< tt)
 
 memory-few : (there : Bool) (n o width : ℕ) (k : Kind) (s : State) → valueOf (memoryStep there n o width k s .answer) < 2 ^ 32
-unfolding memoryStep memoryStepped memoryAnswer
-memory-few there n o width k s = answered-few _ _ (rule-few _ _ o k)
+unfolding memoryStep memoryStepped memoryAnswer decided
+memory-few there n o width k s =
+    let w = guardOf s n .regions in
+    let m = shapeOf n .regions in
+    answered-few _ (ruleOf w m o) (reasonOf (tests w m o k)) (rule-few w m o) (reason-few (tests w m o k))
 
 step-few : (e : Event) (s : State) → valueOf (step e s .answer) < 2 ^ 32
 unfolding step peripheralStep
 step-few Reset s = lit< tt
 step-few (Register a) s = register-few (a .block) (a .request) s
-step-few (Peripheral a) s = answered-few _ _ (lit< tt)
+step-few (Peripheral a) s = answered-few _ _ 0 (lit< tt) (lit< tt)
 step-few (Memory a) s = memory-few true (a .guard .0) (a .offset) (a .width) (a .kind) s
 step-few (Master a) s = memory-few _ (a .guard .0) (a .offset) (a .width) _ s
 

@@ -12,7 +12,7 @@ use lib.ListN.{length, length-append}
 use Rattle.words.proofs.Laws.{word-lt}
 use Rattle.access.specs.Kind.{kindOf}
 use Rattle.regions.specs.Rights.{rightsWord}
-use Rattle.regions.specs.Rules.{decided}
+use Rattle.regions.specs.Rules.{decided, granted}
 use Rattle.risaf.specs.Guards.{isGuard, shapeOf}
 use Rattle.spans.specs.Map.{join, mapOf}
 use Rattle.spans.specs.Rows.{Rows, none, more, size, flat}
@@ -55,7 +55,7 @@ small-map f h (suc x) l = small-join (mapOf f x) x (f x) (small-map f h x (omega
 
 rights-few : (s : State) (n o : ℕ) → rightsOf s n o < 2 ^ 64
 unfolding rightsOf rightsWord
-rights-few s n o = word-lt 64 (λ b. decided (guardOf s n .regions) (shapeOf n .regions) o (kindOf b) .granted)
+rights-few s n o = word-lt 64 (λ b. granted (decided (guardOf s n .regions) (shapeOf n .regions) o (kindOf b)))
 
 small-rows : (s : State) (n : ℕ) → Small (rowsOf s n)
 unfolding rowsOf

@@ -5,14 +5,14 @@ use mathlib.Core.Path.{_≡_, refl, ap, _∙_}
 use Prim.Native.Nat.{ℕ}
 use borrow.Author.Tests.{eq-eqb}
 use lib.ListN.{length}
-use Rattle.access.specs.Checks.{answered, reached}
+use Rattle.access.specs.Checks.{answeredWith, reachedWith}
 use Rattle.rifsc.specs.Contents.{reset as rifsc-reset}
 use Rattle.iac.specs.Contents.{reset as iac-reset}
 use Rattle.risaf.specs.Contents.{reset}
 use Rattle.risaf.specs.Guards.{shapeIn, shapeOf}
 use Rattle.risaf.specs.Memory.{memoryChecks, memoryAnswer, memoryStepped}
 use Rattle.regions.specs.Rights.{rightsWord}
-use Rattle.regions.specs.Rules.{decided}
+use Rattle.regions.specs.Rules.{tests, decided}
 use Rattle.spans.specs.Map.{join}
 use Rattle.spans.specs.Rows.{size}
 use Rattle.spans.specs.Sweep.{nextOf, sweepFrom, sweptMap, boundsOf}
@@ -75,7 +75,7 @@ started m h = rw (eq-eqb (length m) stateWords h)
 -- ---- the access is granted, and leaves the memory as it was
 
 first : (textOf (AnEvent access) 1 start ≡ text1) × (leftBy (AnEvent access) start ≡ start)
-unfolding textOf leftBy answerText answerLine digitsOf widthIn widthOf decimalText appliedAnswer appliedState layout joined partsOf stateOf resetState rifsc-reset iac-reset reset step memoryStep memoryStepped memoryAnswer memoryChecks answered reached shapeIn shapeOf guardOf withGuard decided
+unfolding textOf leftBy answerText answerLine digitsOf widthIn widthOf decimalText appliedAnswer appliedState layout joined partsOf stateOf resetState rifsc-reset iac-reset reset step memoryStep memoryStepped memoryAnswer memoryChecks answeredWith reachedWith shapeIn shapeOf guardOf withGuard decided tests
 first = (refl, refl)
 
 -- ---- the map's text is its sheet, whose rows a sweep computes (rows-swept)
@@ -87,7 +87,7 @@ asked = refl
 swept : sheet 2
     (sweptMap (rightsOf (stateOf start) 2) (boundsOf (pairsOf (guardOf (stateOf start) 2 .regions) (shapeOf 2 .regions))) (shapeOf 2 .window))
     ≡ text2
-unfolding sheet spanLines labelLine spanLine digitsOf widthIn widthOf decimalText size sweptMap sweepFrom nextOf boundsOf join pairsOf rightsOf rightsWord decided layout joined partsOf stateOf resetState rifsc-reset iac-reset reset shapeIn shapeOf guardOf
+unfolding sheet spanLines labelLine spanLine digitsOf widthIn widthOf decimalText size sweptMap sweepFrom nextOf boundsOf join pairsOf rightsOf rightsWord decided tests layout joined partsOf stateOf resetState rifsc-reset iac-reset reset shapeIn shapeOf guardOf
 swept = refl
 
 second : textOf (Map (record { 0 = 2 })) 2 start ≡ text2

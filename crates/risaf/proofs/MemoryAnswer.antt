@@ -8,22 +8,23 @@ use native.Mathlib.Omega.{arith}
 use lib.Dec.{eqb, ltb}
 use lib.ListN.{length}
 use borrow.Author.Tests.{eq-eqb, ne-eqb, lt-leb, eqb-true}
-use Rattle.access.specs.Checks.{answered}
+use Rattle.access.specs.Answer.{numberOf}
+use Rattle.access.specs.Checks.{unless, answered, answeredWith, reachedWith}
 use Rattle.access.specs.declared.answer.Answer.{Answer}
-use Rattle.access.specs.declared.answer.Answer.the-variants.{Rejected}
-use Rattle.access.specs.declared.answer.Why.the-variants.{NoSuch}
+use Rattle.access.specs.declared.answer.Answer.the-variants.{Done, Refused, Rejected}
+use Rattle.access.specs.declared.answer.Why.the-variants.{NoSuch, Misaligned, Outside}
 use Rattle.access.specs.Kind.{debugger, isCid}
 use Rattle.access.specs.declared.checks.Checks.{Checks}
 use Rattle.access.specs.declared.kind.Kind.{Kind}
 use Rattle.regions.specs.Lent.{decidedIn}
-use Rattle.risaf.specs.Memory.{isWidth, memoryChecks, memoryAnswer}
-use Rattle.regions.specs.Rules.{decided}
+use Rattle.risaf.specs.Memory.{isWidth, memoryChecks, memoryAnswer, memoryChecked}
+use Rattle.regions.specs.Rules.{decided, granted}
 use Rattle.regions.specs.Words.{base, mostRegions}
 use Rattle.risaf.specs.declared.guards.Shape.{Shape}
 use Rattle.regions.specs.declared.rules.Verdict.{Verdict}
 use Rattle.regions.proofs.Enough.{decided-enough}
 
--- ---- where the code's verdict is not the rules', the answer does not look at it
+-- ---- the tests
 
 pub other-width : (o width : ℕ) → (width ≡ 2 → ⊥) → (width ≡ 4 → ⊥) → isWidth width ≡ true → true ≡ eqb (o % width) 0
 other-width o width two four h =
@@ -34,7 +35,7 @@ other-width o width two four h =
     or-no {a} {b} p q = sym (or-false a) ∙ sym (ap (λ (x : Bool). a || x) q) ∙ p
 
 -- of a width that there is not, the alignment is not looked at
-pub answer-aligned : (there : Bool) (shape : Shape) (o width : ℕ) (k : Kind) (v : Verdict) {t : Bool} {a : Answer}
+pub checked-aligned : (there : Bool) (shape : Shape) (o width : ℕ) (k : Kind) {t : Bool} {a : Answer}
     → (isWidth width ≡ true → t ≡ eqb (o % width) 0)
     → a
     ≡ answered
@@ -44,14 +45,14 @@ pub answer-aligned : (there : Bool) (shape : Shape) (o width : ℕ) (k : Kind) (
       inside = ltb o (shape .window);
       fetchless = true;
       known = true;
-      allowed = v .granted;
+      allowed = true;
       direction = true;
       unlocked = true;
     })
-    (v .rule)
-    → a ≡ memoryAnswer there shape o width k v
-unfolding memoryAnswer memoryChecks answered
-answer-aligned there shape o width k v {t} {a} h e = e ∙ go (isWidth width) refl
+    0
+    → a ≡ memoryChecked there shape o width k
+unfolding memoryChecked memoryChecks answeredWith
+checked-aligned there shape o width k {t} {a} h e = e ∙ go (isWidth width) refl
   where
     checks : Bool → Bool → Checks
     checks w u =
@@ -61,18 +62,68 @@ answer-aligned there shape o width k v {t} {a} h e = e ∙ go (isWidth width) re
           inside = ltb o (shape .window);
           fetchless = true;
           known = true;
-          allowed = v .granted;
+          allowed = true;
           direction = true;
           unlocked = true;
         }
 
-    go : (w : Bool) → isWidth width ≡ w → answered (checks w t) (v .rule) ≡ answered (checks w (eqb (o % width) 0)) (v .rule)
+    go : (w : Bool) → isWidth width ≡ w → answered (checks w t) 0 ≡ answered (checks w (eqb (o % width) 0)) 0
     go true q = rw (h q)
     go false q = simp and-false
 
+-- ---- what is answered before the rules are asked, and then
+
+-- what the rules' verdict answers
+abbrev pub ruled : Verdict → Answer
+ruled v = unless (granted v) (Refused (v .reason)) (Done (v .rule))
+
+-- the rules are asked only where nothing rejects the access
+abbrev pub onward : Answer → Answer → Answer
+onward (Done x) next = next
+onward (Refused x) next = Refused x
+onward (Rejected why) next = Rejected why
+
+module _ (there : Bool) (shape : Shape) (o width : ℕ) (k : Kind) where
+  pub answer-onward : (v : Verdict) → memoryAnswer there shape o width k v ≡ onward (memoryChecked there shape o width k) (ruled v)
+  unfolding memoryAnswer memoryChecked memoryChecks answeredWith reachedWith
+  answer-onward v = go (there && isCid (k .cid) && isWidth width) (eqb (o % width) 0) (ltb o (shape .window))
+    where
+      go : (p a i : Bool)
+          → unless p (Rejected NoSuch) (unless a (Rejected Misaligned) (unless i (Rejected Outside) (ruled v)))
+          ≡ onward (unless p (Rejected NoSuch) (unless a (Rejected Misaligned) (unless i (Rejected Outside) (Done 0)))) (ruled v)
+      go true true true = refl
+      go true true false = refl
+      go true false i = refl
+      go false a i = refl
+
+  -- what holds of the three rejections, and of what the verdict answers, holds of the answer
+  pub answer-by : (P : Answer → Type 0) (v : Verdict) → P (Rejected NoSuch) → P (Rejected Misaligned) → P (Rejected Outside) → P (ruled v)
+      → P (memoryAnswer there shape o width k v)
+  unfolding memoryAnswer memoryChecks answeredWith reachedWith
+  answer-by P v four five six rest = go (there && isCid (k .cid) && isWidth width) (eqb (o % width) 0) (ltb o (shape .window))
+    where
+      go : (p a i : Bool) → P (unless p (Rejected NoSuch) (unless a (Rejected Misaligned) (unless i (Rejected Outside) (ruled v))))
+      go true true true = rest
+      go true true false = six
+      go true false i = five
+      go false a i = four
+
+  pub checked-unrefused : {x : ℕ} → memoryChecked there shape o width k ≡ Refused x → ⊥
+  unfolding memoryChecked memoryChecks answeredWith reachedWith
+  checked-unrefused {x} = go (there && isCid (k .cid) && isWidth width) (eqb (o % width) 0) (ltb o (shape .window))
+    where
+      go : (p a i : Bool)
+          → unless p (Rejected NoSuch) (unless a (Rejected Misaligned) (unless i (Rejected Outside) (Done 0))) ≡ Refused x → ⊥
+      go true true true e = omega (arith, ap numberOf e)
+      go true true false e = omega (arith, ap numberOf e)
+      go true false i e = omega (arith, ap numberOf e)
+      go false a i e = omega (arith, ap numberOf e)
+
+-- ---- where the code's verdict is not the rules', the answer does not look at it
+
 pub answer-over : (there : Bool) (shape : Shape) (o width : ℕ) (k : Kind) (v : Verdict) → debugger .0 < k .cid .0
     → memoryAnswer there shape o width k v ≡ Rejected NoSuch
-unfolding memoryAnswer memoryChecks answered
+unfolding memoryAnswer memoryChecks answeredWith
 answer-over there shape o width k v h = simp (lt-leb _ _ h, and-false)
 
 pub answer-in : (there : Bool) (shape : Shape) (o width : ℕ) (k : Kind) (w : List ℕ) (n : ℕ) → n ≤ mostRegions → base n ≤ length w

@@ -1,15 +1,15 @@
--- A memory access to a guard: document 01, the order of its checks, and "A refused memory access sets IAEF".
+-- A memory access to a guard: document 01, the order of its checks, and "A refused memory access sets IAEF"; document 02, Q-5, the reason.
 use mathlib.Core.Bool.{Bool, true, _&&_, _||_, cond}
 use Prim.Native.Nat.{ℕ, _+_, _*_, _%_}
 use lib.Dec.{ltb, eqb}
 use Rattle.words.specs.Bit.{bit, one, merged, withBit}
 use Rattle.access.specs.Answer.{left}
-use Rattle.access.specs.Checks.{answered}
+use Rattle.access.specs.Checks.{answered, answeredWith}
 use Rattle.access.specs.Kind.{isCid}
 use Rattle.access.specs.declared.answer.Answer.{Answer}
 use Rattle.access.specs.declared.checks.Checks.{Checks}
 use Rattle.access.specs.declared.kind.Kind.{Kind}
-use Rattle.regions.specs.Rules.{decided}
+use Rattle.regions.specs.Rules.{decided, granted}
 use Rattle.regions.specs.declared.rules.Verdict.{Verdict}
 use Rattle.risaf.specs.Port.{Stepped}
 use Rattle.risaf.specs.Rows.{ofHead}
@@ -21,23 +21,28 @@ use Rattle.risaf.specs.declared.registers.Head.the-variants.{Iaesr}
 abbrev pub isWidth : ℕ → Bool
 isWidth width = eqb width 1 || eqb width 2 || eqb width 4
 
--- there says whether the guard, and the master, are ones there are; the verdict is the rules'
-unfoldable pub memoryChecks : Bool → Shape → ℕ → ℕ → Kind → Verdict → Checks
-memoryChecks there shape o width k verdict =
+-- there says whether the guard, and the master, are ones there are; allowed, whether the rules grant
+unfoldable pub memoryChecks : Bool → Shape → ℕ → ℕ → Kind → Bool → Checks
+memoryChecks there shape o width k allowed =
     record {
       present = there && isCid (k .cid) && isWidth width;
       aligned = eqb (o % width) 0;
       inside = ltb o (shape .window);
       fetchless = true;
       known = true;
-      allowed = verdict .granted;
+      allowed = allowed;
       direction = true;
       unlocked = true;
     }
 
--- a granted access gives which rule governed
+-- a granted access gives which rule governed, a refused one the reason
 unfoldable pub memoryAnswer : Bool → Shape → ℕ → ℕ → Kind → Verdict → Answer
-memoryAnswer there shape o width k verdict = answered (memoryChecks there shape o width k verdict) (verdict .rule)
+memoryAnswer there shape o width k verdict =
+    answeredWith (memoryChecks there shape o width k (granted verdict)) (verdict .rule) (verdict .reason)
+
+-- what the code goes by, before it asks the rules: the answer if they grant
+unfoldable pub memoryChecked : Bool → Shape → ℕ → ℕ → Kind → Answer
+memoryChecked there shape o width k = answered (memoryChecks there shape o width k true) 0
 
 -- a kind of asking as IAESR records it: CID 2:0, privileged 4, secure 5, write 7
 abbrev pub iaesrOf : Kind → ℕ

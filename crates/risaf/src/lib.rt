@@ -17,7 +17,7 @@ pub use guards::GUARD_COUNT;
 pub use guards::GuardNumber;
 pub use guards::Shape;
 pub use memory::Faults;
-pub use memory::memory_answer;
+pub use memory::memory_checked;
 pub use port::Port;
 pub use rows::Row;
 pub use rows::row_at;

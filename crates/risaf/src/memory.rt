@@ -3,13 +3,12 @@ use access::Answer;
 use access::Checks;
 use access::DEBUGGER;
 use access::Kind;
-use regions::Verdict;
 use regions::places::COMPARTMENTS;
 ghost use mathlib.Core.Bool.{true};
 ghost use mathlib.Core.Path.{_≡_};
 ghost use Prim.Native.Nat.{_%_};
 ghost use lib.Dec.{eqb};
-ghost use Rattle.risaf.specs.Memory.{isWidth, memoryAnswer, recordedFault};
+ghost use Rattle.risaf.specs.Memory.{isWidth, memoryChecked, recordedFault};
 
 // The fault registers, as stored.
 pub struct Faults {
@@ -40,16 +39,10 @@ fn aligned(o: u32, width: u32) -> bool
     }
 }
 
-// The answer to a memory access of a kind: there says whether the guard, and the master, are ones there are.
-pub fn memory_answer(
-    there: bool,
-    shape: Shape,
-    o: u32,
-    width: u32,
-    k: Kind,
-    verdict: Verdict,
-) -> Answer
-    ensures { λ r. ⌜ r ≡ memoryAnswer there shape o width k verdict ⌝ }
+// The answer to a memory access of a kind if the rules grant it: done, where they are to be asked. there says whether the guard, and the
+// master, are ones there are.
+pub fn memory_checked(there: bool, shape: Shape, o: u32, width: u32, k: Kind) -> Answer
+    ensures { λ r. ⌜ r ≡ memoryChecked there shape o width k ⌝ }
 {
     let checks = Checks {
         present: there & (k.cid.0 <= DEBUGGER.0) & ((width == 1) | (width == 2) | (width == 4)),
@@ -57,11 +50,11 @@ pub fn memory_answer(
         inside: (o as u64) < shape.window,
         fetchless: true,
         known: true,
-        allowed: verdict.granted,
+        allowed: true,
         direction: true,
         unlocked: true,
     };
-    checks.answer(verdict.rule)
+    checks.answer(0)
 }
 
 impl Faults {

@@ -7,7 +7,7 @@ use lib.Dec.{eqb}
 use borrow.Author.Tests.{eqb-true}
 use Rattle.access.specs.Answer.{numberOf, valueOf}
 use Rattle.words.specs.Bit.{masked, merged, united, withBit}
-use Rattle.access.specs.Checks.{answered, reached}
+use Rattle.access.specs.Checks.{answeredWith, reachedWith}
 use Rattle.rifsc.specs.Registers.{registerAt as rifsc-registerAt, ppsr, rowOf as rifsc-rowOf}
 use Rattle.rifsc.specs.Contents.{stored as rifsc-stored, withStored as rifsc-withStored, seen as rifsc-seen, reset as rifsc-reset}
 use Rattle.rifsc.specs.Port.{readOf as rifsc-readOf, takes, wordWritten as rifsc-wordWritten, checksOf as rifsc-checksOf, answerOf as rifsc-answerOf, written as rifsc-written, stepped as rifsc-stepped}
@@ -23,7 +23,7 @@ use Rattle.risaf.specs.Registers.{regionAt, subRegister, regionRegister, regist
 use Rattle.risaf.specs.Rows.{ofHead, ofBase, ofSub, rowOf}
 use Rattle.risaf.specs.Contents.{withWord, reset}
 use Rattle.risaf.specs.Port.{portIn, readOf, delegated, allowedOf, subcfgrWritten, wordIn, checksOf, answerOf, accessed, stepped}
-use Rattle.regions.specs.Rules.{decided}
+use Rattle.regions.specs.Rules.{tests, decided}
 use Rattle.regions.specs.Rights.{rightsWord}
 use Rattle.risaf.specs.Memory.{memoryChecks, memoryAnswer, recordedFault, faulted, memoryStepped}
 use Rattle.device.specs.State.{State, guardOf, withGuard, resetState}
@@ -90,7 +90,7 @@ hold (x ∷ xs) h = let p = both _ _ h in (holds x resetState (p .0), hold xs (p
 -- ---- the examples, and the wrong readings
 
 passed : (pass worked ≡ true) × (pass readings ≡ true)
-unfolding pass passes same swept worked readings flat sweptMap sweepFrom nextOf boundsOf join pairsOf rightsOf rightsWord masked merged united withBit answered reached rifsc-registerAt ppsr rifsc-rowOf rifsc-stored rifsc-withStored rifsc-seen rifsc-reset rifsc-readOf takes rifsc-wordWritten rifsc-checksOf rifsc-answerOf rifsc-written rifsc-stepped iac-registerAt iisr iac-rowOf iac-stored iac-other iac-seen iac-withWord iac-withStored freshOf recounted held iac-reset iac-readOf iac-checksOf iac-answerOf iac-written iac-stepped raise raised shapeIn shapeOf regionAt subRegister regionRegister registerAt ofHead ofBase ofSub rowOf withWord reset portIn readOf delegated allowedOf subcfgrWritten wordIn checksOf answerOf accessed stepped decided memoryChecks memoryAnswer recordedFault faulted memoryStepped guardOf withGuard resetState registerStep peripheralStep exists filterOf grants isMaster guardingOf attributesOf carried memoryStep step
+unfolding pass passes same swept worked readings flat sweptMap sweepFrom nextOf boundsOf join pairsOf rightsOf rightsWord masked merged united withBit answeredWith reachedWith rifsc-registerAt ppsr rifsc-rowOf rifsc-stored rifsc-withStored rifsc-seen rifsc-reset rifsc-readOf takes rifsc-wordWritten rifsc-checksOf rifsc-answerOf rifsc-written rifsc-stepped iac-registerAt iisr iac-rowOf iac-stored iac-other iac-seen iac-withWord iac-withStored freshOf recounted held iac-reset iac-readOf iac-checksOf iac-answerOf iac-written iac-stepped raise raised shapeIn shapeOf regionAt subRegister regionRegister registerAt ofHead ofBase ofSub rowOf withWord reset portIn readOf delegated allowedOf subcfgrWritten wordIn checksOf answerOf accessed stepped decided tests memoryChecks memoryAnswer recordedFault faulted memoryStepped guardOf withGuard resetState registerStep peripheralStep exists filterOf grants isMaster guardingOf attributesOf carried memoryStep step
 passed = (refl, refl)
 
 pub all-hold : AllHold worked

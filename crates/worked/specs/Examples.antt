@@ -1,4 +1,4 @@
--- The marked examples: document 01's W1 to W14, and document 02's by their request. Register offsets of guard 2: region 1 is at 040, its subregion A at 050.
+-- The marked examples: document 01's W1 to W14, with the reasons of Q-5, and document 02's by their request. Register offsets of guard 2: region 1 is at 040, its subregion A at 050.
 use mathlib.Core.Bool.{true, false}
 use mathlib.Core.List.{List, [], _∷_, _++_}
 use Prim.Native.Nat.{ℕ}
@@ -15,25 +15,25 @@ guard2 = Risaf (record { 0 = 2 })
 abbrev pub w1 : ℕ → List Line
 w1 width = gives (asksWide width 2 0 false 1 true true) 0 0 ∷ []
 
--- CID 2: 1; ISR4 00001000, IAESR 00000032
+-- CID 2: 1, for the compartment; ISR4 00001000, IAESR 00000032
 abbrev pub w2 : ℕ → List Line
 w2 width =
-    gives (asksWide width 2 0 false 2 true true) 1 0
+    gives (asksWide width 2 0 false 2 true true) 1 3
     ∷ gives (reads Iac 0x090 true true) 0 0x0000_1000
     ∷ gives (reads guard2 0x020 true true) 0 0x0000_0032
     ∷ []
 
--- after W2, nonsecure write CID 3 at 40: 1, IAESR still 00000032
+-- after W2, nonsecure write CID 3 at 40: 1, for security, IAESR still 00000032
 abbrev pub w3 : ℕ → List Line
 w3 width =
     w2 width
-    ++ gives (asksWide width 2 0x40 true 3 false true) 1 0
+    ++ gives (asksWide width 2 0x40 true 3 false true) 1 1
     ∷ gives (reads guard2 0x020 true true) 0 0x0000_0032
     ∷ []
 
--- CID 7 secure privileged granted; CID 7 nonsecure refused
+-- CID 7 secure privileged granted; CID 7 nonsecure refused, for security
 abbrev pub w4 : ℕ → List Line
-w4 width = gives (asksWide width 2 0 false 7 true true) 0 0 ∷ gives (asksWide width 2 0 false 7 false true) 1 0 ∷ []
+w4 width = gives (asksWide width 2 0 false 7 true true) 0 0 ∷ gives (asksWide width 2 0 false 7 false true) 1 1 ∷ []
 
 -- ATTR1 write 00000370 reads 00000300
 abbrev pub w5 : List Line
@@ -81,17 +81,18 @@ region1 =
     ∷ gives (writes guard2 0x040 0x0000_0001 true true) 0 0
     ∷ []
 
--- nonsecure unprivileged one-byte read, CID 2: granted at 10000 and 1FFFF by rule 1, refused at FFFF and 20000
+-- nonsecure unprivileged one-byte read, CID 2: granted at 10000 and 1FFFF by rule 1, refused at FFFF and 20000, for security
 abbrev pub w11 : List Line
 w11 =
     region1
     ++ gives (asks 2 0x1_0000 false 2 false false) 0 1
     ∷ gives (asks 2 0x1_ffff false 2 false false) 0 1
-    ∷ gives (asks 2 0x0_ffff false 2 false false) 1 0
-    ∷ gives (asks 2 0x2_0000 false 2 false false) 1 0
+    ∷ gives (asks 2 0x0_ffff false 2 false false) 1 1
+    ∷ gives (asks 2 0x2_0000 false 2 false false) 1 1
     ∷ []
 
--- then A 10000 to 10FFF, CFGR 00001121: at 10000 nonsecure CID 2 read granted by rule 2; secure, CID 1, or a write refused
+-- then A 10000 to 10FFF, CFGR 00001121: at 10000 nonsecure CID 2 read granted by rule 2; secure, CID 1, or a write refused, for security,
+-- the compartment, the direction
 abbrev pub w12 : List Line
 w12 =
     w11
@@ -99,9 +100,9 @@ w12 =
     ∷ gives (writes guard2 0x058 0x0001_0fff true true) 0 0
     ∷ gives (writes guard2 0x050 0x0000_1121 true true) 0 0
     ∷ gives (asks 2 0x1_0000 false 2 false false) 0 2
-    ∷ gives (asks 2 0x1_0000 false 2 true true) 1 0
-    ∷ gives (asks 2 0x1_0000 false 1 false false) 1 0
-    ∷ gives (asks 2 0x1_0000 true 2 false false) 1 0
+    ∷ gives (asks 2 0x1_0000 false 2 true true) 1 1
+    ∷ gives (asks 2 0x1_0000 false 1 false false) 1 3
+    ∷ gives (asks 2 0x1_0000 true 2 false false) 1 3
     ∷ []
 
 -- map after W11: 0 to FFFF 8282000000000000; 10000 to 1FFFF 0000000084868486; 20000 to FFFFF 8282000000000000
@@ -124,11 +125,11 @@ w14 =
     ∷ gives (reads guard2 0x048 true true) 0 0x0001_0fff
     ∷ []
 
--- Q-2 names no width either. Master 6, ATTR6 written 00000310, reading guard 2 at 0 with SEC 60 clear (1); IAESR says nonsecure
+-- Q-2 names no width either. Master 6, ATTR6 written 00000310, reading guard 2 at 0 with SEC 60 clear (1, for security); IAESR says nonsecure
 abbrev pub q2Clear : ℕ → List Line
 q2Clear width =
     gives (writes Rifsc 0xc28 0x0000_0310 true true) 0 0
-    ∷ gives (masterAsks width 6 2 0 false) 1 0
+    ∷ gives (masterAsks width 6 2 0 false) 1 1
     ∷ gives (reads guard2 0x020 true true) 0 0x0000_0011
     ∷ []
 

@@ -1,4 +1,4 @@
--- Document 01's wrong readings, each with events whose answers shut it out. Register offsets of guard 2: NEST of region 1's subregion A is at 05C.
+-- Document 01's wrong readings, and some of Q-5, each with events whose answers shut it out. Register offsets of guard 2: NEST of region 1's subregion A is at 05C.
 use mathlib.Core.Bool.{true, false}
 use mathlib.Core.List.{List, [], _∷_, _++_}
 use Rattle.worked.specs.Example.{Line, gives, reads, writes, asks, uses}
@@ -9,7 +9,7 @@ abbrev pub secureToo : List Line
 secureToo =
     region1
     ++ gives (asks 2 0x1_0000 false 2 false true) 0 1
-    ∷ gives (asks 2 0x1_0000 false 2 true true) 1 0
+    ∷ gives (asks 2 0x1_0000 false 2 true true) 1 1
     ∷ gives (uses 0 false true) 0 0
     ∷ gives (uses 0 true true) 0 0
     ∷ []
@@ -35,9 +35,28 @@ outsideBase =
     ++ gives (writes guard2 0x054 0x0003_0000 true true) 0 0
     ∷ gives (writes guard2 0x058 0x0003_0fff true true) 0 0
     ∷ gives (writes guard2 0x050 0x0000_1121 true true) 0 0
-    ∷ gives (asks 2 0x3_0000 false 2 false true) 1 0
+    ∷ gives (asks 2 0x3_0000 false 2 false true) 1 1
     ∷ gives (asks 2 0x3_0000 false 1 true true) 0 0
     ∷ []
 
+-- ---- readings of Q-5's "Each test is made over all governing regions before the next begins, and the first that fails is the reason"
+
+-- the compartment before the privilege, or the privilege before the security, by rule 0: CID 2 unprivileged, secure and not
+abbrev pub otherOrder : List Line
+otherOrder = gives (asks 2 0 false 2 true false) 1 2 ∷ gives (asks 2 0 false 2 false false) 1 1 ∷ []
+
+-- one region's tests before the next region's: region 1 of W11 with PRIVC2 set, which an unprivileged CID 2 fails, and over the same
+-- offsets region 2, at 080, with SEC set, which it fails nonsecure
+abbrev pub regionFirst : List Line
+regionFirst =
+    region1
+    ++ gives (writes guard2 0x040 0x0004_0001 true true) 0 0
+    ∷ gives (asks 2 0x1_0000 false 2 false false) 1 2
+    ∷ gives (writes guard2 0x084 0x0001_0000 true true) 0 0
+    ∷ gives (writes guard2 0x088 0x0001_ffff true true) 0 0
+    ∷ gives (writes guard2 0x080 0x0000_0101 true true) 0 0
+    ∷ gives (asks 2 0x1_0000 false 2 false false) 1 1
+    ∷ []
+
 unfoldable pub readings : List (List Line)
-readings = secureToo ∷ glockStops ∷ faultOverwrites ∷ outsideBase ∷ []
+readings = secureToo ∷ glockStops ∷ faultOverwrites ∷ outsideBase ∷ otherOrder ∷ regionFirst ∷ []

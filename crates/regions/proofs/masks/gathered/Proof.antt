@@ -3,19 +3,22 @@ use Prim.Native.Nat.{_≤_, _-_}
 use native.Mathlib.Omega.{arith}
 use borrow.Author.Needs.{needs}
 use Rattle.regions.specs.Masks.{masks}
-use Rattle.regions.proofs.MaskTally.{masks-more}
+use Rattle.regions.proofs.Gathered.{masks-more, masks-pass}
 use Rattle.regions.proofs.masks.gathered.Statement.{statement}
 use Rattle.regions.proofs.masks.gathered.Tie as tie
 
 abbrev Inv-loop : tie.InvT-loop
-Inv-loop w n o m₀ x₀ m x = (x ≤ n) × (m ≡ masks w x o)
+Inv-loop w from n o m₀ x₀ m x = (x ≤ n) × (m ≡ masks w x o)
 
 abbrev μ-loop : tie.MeasureT-loop
-μ-loop w n o m₀ x₀ m x = n - x
+μ-loop w from n o m₀ x₀ m x = n - x
 
 loop-holds : tie.Need-loop-holds Inv-loop μ-loop
 unfolding masks
-loop-holds c = search needs
+loop-holds c =
+    let p = c .before .pre in
+    let a = c .before .args in
+    (p .0, masks-pass (a .w .now) (a .o) (a .from) (p .2))
 
 loop-again : tie.Need-loop-again Inv-loop μ-loop
 loop-again c = (search needs, masks-more _ _ _ (c .before .before .loop .inv .1) (c .base-gathered .ensures))

@@ -1,35 +1,34 @@
-use mathlib.Core.Path.{_∙_}
+use mathlib.Core.Path.{sym, _∙_}
+use native.Mathlib.Omega.{arith}
 use borrow.Author.Needs.{needs}
 use borrow.Author.Tests.{not-true, not-false}
-use Rattle.regions.proofs.RightsBytes.{byte-none, byte-bases, byte-subs}
+use Rattle.regions.proofs.RightsBytes.{byte-none, byte-privileged, byte-unprivileged}
 use Rattle.regions.proofs.rights.byte.Statement.{statement}
 use Rattle.regions.proofs.rights.byte.Tie as tie
 
 returns : tie.Need-returns
 returns c =
-    let b = c .before .before .before in
-    let a = b .before .args in
-    c .open-to .ensures ∙ byte-subs (a .m) (a .write) (a .privileged) (a .secure) (b .if1 .taken)
+    let s = c .before .admits-security in
+    let a = c .before .before .args in
+    byte-none (a .a) (a .write) (a .privileged) (a .secure) (sym (s .ensures) ∙ not-true (s .result) (c .if1 .taken))
 
 returns-2 : tie.Need-returns-2
 returns-2 c =
-    let b = c .before .before .before in
-    let a = b .before .args in
-    c .open-to2 .ensures
-    ∙ byte-none (a .m) (a .write) (a .privileged) (a .secure) (b .if1 .left)
-    (not-true (a .m .covered) (c .before .if2 .taken))
+    let b = c .before .before in
+    let s = b .before .admits-security in
+    let a = b .before .before .args in
+    rw (c .before .open-to .ensures)
+    (byte-privileged (a .a) (a .write) (a .privileged) (a .secure) (sym (s .ensures) ∙ not-false (s .result) (b .if1 .left))
+    (c .if2 .taken))
 
 returns-3 : tie.Need-returns-3
 returns-3 c =
-    let d = c .before .before .before in
-    let b = d .before .before .before .before in
-    let a = b .before .before .before .args in
-    c .open-to3 .ensures
-    ∙ byte-bases (a .m) (a .write) (a .privileged) (a .secure) (b .before .before .if1 .left)
-    (not-false (a .m .covered) (b .if2 .left)) (d .closed .ensures)
+    let b = c .before .before .before in
+    let s = b .before .admits-security in
+    let a = b .before .before .args in
+    rw (c .before .before .open-to .ensures)
+    (byte-unprivileged (a .a) (a .write) (a .privileged) (a .secure) (sym (s .ensures) ∙ not-false (s .result) (b .if1 .left))
+    (c .before .if2 .left) (omega arith))
 
 pub byte-spec : {M : Type 1} → statement M
-byte-spec =
-    tie.close
-    (tie.spec (λ c κs. search needs) returns (λ c κs. search needs) returns-2 (λ c κs. search needs)
-    (λ c κs. search needs) returns-3)
+byte-spec = tie.close (tie.spec (λ c κs. search needs) returns (λ c κs. search needs) returns-2 returns-3)

@@ -1,7 +1,7 @@
 use mathlib.Core.Bool.{true, false}
 use native.Mathlib.Omega.{arith}
 use borrow.Author.Needs.{needs}
-use Rattle.regions.specs.Masks.{byteAt}
+use Rattle.regions.specs.Admits.{byteAt}
 use Rattle.regions.proofs.RightsBytes.{rights-join, rights-lt}
 use Rattle.regions.proofs.rights.pair.Statement.{statement}
 use Rattle.regions.proofs.rights.pair.Tie as tie
@@ -15,7 +15,7 @@ add-result c = omega (arith, rights-lt _ _ 8 (c .before .byte .ensures), rights-
 returns : tie.Need-returns
 returns c =
     let a = c .before .before .args in
-    rights-join (a .m) (byteAt false (a .privileged) (a .secure)) (byteAt true (a .privileged) (a .secure)) 8 8
+    rights-join (a .a) (byteAt false (a .privileged) (a .secure)) (byteAt true (a .privileged) (a .secure)) 8 8
     (omega arith) (c .before .byte .ensures) (c .byte2 .ensures)
 
 pub pair-spec : {M : Type 1} → statement M

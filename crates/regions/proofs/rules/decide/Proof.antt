@@ -1,10 +1,11 @@
 use mathlib.Core.Path.{ap, sym, _∙_}
 use borrow.Author.Needs.{needs}
 use borrow.Author.Tests.{lt-leb, le-leb}
+use Rattle.regions.specs.Admits.{verdictOf}
 use Rattle.regions.specs.Lent.{decidedIn}
-use Rattle.regions.specs.Tally.{judged}
-use Rattle.regions.specs.declared.rules.Tally.{Tally}
-use Rattle.regions.proofs.Tally.{decided-judged}
+use Rattle.regions.specs.declared.admits.Admits.{Admits}
+use Rattle.regions.proofs.AdmitsTests.{none-found, one-found, verdict-is}
+use Rattle.regions.proofs.Enough.{decided-enough}
 use Rattle.regions.proofs.rules.decide.Statement.{statement}
 use Rattle.regions.proofs.rules.decide.Tie as tie
 
@@ -23,15 +24,37 @@ returns-3 c =
     simp (le-leb _ _ (b .before .if1 .left), le-leb _ _ (b .if2 .left), lt-leb _ _ (c .if3 .taken))
 
 returns-4 : tie.Need-returns-4
-unfolding decidedIn
 returns-4 c =
-    let d = c .before .before in
+    let s = c .before .before .before in
+    let d = s .before in
     let b = d .before .before .before in
     let a = b .before .before .before .args in
-    simp (le-leb _ _ (b .before .if1 .left), le-leb _ _ (b .if2 .left), le-leb _ _ (d .if3 .left))
-    (c .judged .ensures ∙ ap (λ (t : Tally). judged t (a .k)) (c .before .tallied .ensures) ∙ sym (decided-judged _ _ _ _))
+    c .judged .ensures
+    ∙ ap (λ (x : Admits). verdictOf x (a .k))
+    (c .before .by-default .ensures ∙ none-found (a .w .now) (a .n) (a .o) (s .next-covering .ensures) (c .before .before .if4 .taken))
+    ∙ verdict-is (a .w .now) (a .n) (a .o) (a .k) (d .if3 .left)
+    ∙ sym (decided-enough (a .w .now) (a .n) (a .o) (b .before .if1 .left) (b .if2 .left) (a .k) (d .if3 .left))
+
+by-regions-requires : tie.Need-by-regions-requires
+by-regions-requires c κs =
+    let s = c .before in
+    let b = s .before .before .before .before in
+    (s .next-covering .ensures .high, b .if2 .left, s .next-covering .ensures .passed)
+
+returns-5 : tie.Need-returns-5
+returns-5 c =
+    let s = c .before .before .before in
+    let d = s .before in
+    let b = d .before .before .before in
+    let a = b .before .before .before .args in
+    c .judged2 .ensures
+    ∙ ap (λ (x : Admits). verdictOf x (a .k))
+    (c .before .by-regions .ensures ∙ one-found (a .w .now) (a .n) (a .o) (s .next-covering .ensures) (c .before .before .if4 .left))
+    ∙ verdict-is (a .w .now) (a .n) (a .o) (a .k) (d .if3 .left)
+    ∙ sym (decided-enough (a .w .now) (a .n) (a .o) (b .before .if1 .left) (b .if2 .left) (a .k) (d .if3 .left))
 
 pub decide-spec : {M : Type 1} → statement M
 decide-spec =
     tie.close
-    (tie.spec returns (λ c. search needs) returns-2 returns-3 (λ c κs. search needs) (λ c κs. search needs) returns-4)
+    (tie.spec returns (λ c. search needs) returns-2 returns-3 (λ c κs. search needs) (λ c κs. search needs)
+    (λ c κs. search needs) returns-4 by-regions-requires (λ c κs. search needs) returns-5)

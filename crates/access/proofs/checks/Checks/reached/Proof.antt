@@ -1,17 +1,17 @@
 -- `access::checks::Checks::reached` meets its contract: the first test that fails, with those before it passed.
 use borrow.Author.Tests.{not-true, not-false}
-use Rattle.access.specs.Checks.{reached}
+use Rattle.access.specs.Checks.{reachedWith}
 use Rattle.access.proofs.checks.Checks.reached.Statement.{statement}
 use Rattle.access.proofs.checks.Checks.reached.Tie as tie
 
 returns : tie.Need-returns
-unfolding reached
+unfolding reachedWith
 returns c =
     let s = c .before .before .args .self in
     rw (not-true (s .known) (c .if1 .taken))
 
 returns-2 : tie.Need-returns-2
-unfolding reached
+unfolding reachedWith
 returns-2 c =
     let s = c .before .before .before .before .args .self in
     rw (
@@ -20,7 +20,7 @@ returns-2 c =
     )
 
 returns-3 : tie.Need-returns-3
-unfolding reached
+unfolding reachedWith
 returns-3 c =
     let s = c .before .before .before .before .before .before .args .self in
     rw (
@@ -30,7 +30,7 @@ returns-3 c =
     )
 
 returns-4 : tie.Need-returns-4
-unfolding reached
+unfolding reachedWith
 returns-4 c =
     let s = c .before .before .before .before .before .before .before .before .args .self in
     rw (
@@ -41,7 +41,7 @@ returns-4 c =
     )
 
 returns-5 : tie.Need-returns-5
-unfolding reached
+unfolding reachedWith
 returns-5 c =
     let s = c .before .before .before .before .before .before .before .before .args .self in
     rw (

@@ -1,12 +1,12 @@
--- `regions::rules::next_covering` meets its contract: those passed by so far do not cover.
+-- `regions::masks::next_covering` meets its contract: those passed by so far do not cover.
 use borrow.Author.Needs.{needs}
 use mathlib.Core.Path.{sym, _∙_}
 use Prim.Native.Nat.{_-_, _≤_}
 use native.Mathlib.Omega.{arith}
-use Rattle.regions.specs.Tally.{Passed}
-use Rattle.regions.proofs.Tally.{pass-more, pass-none}
-use Rattle.regions.proofs.rules.next_covering.Statement.{statement}
-use Rattle.regions.proofs.rules.next_covering.Tie as tie
+use Rattle.regions.specs.Masks.{Passed}
+use Rattle.regions.proofs.Gathered.{pass-more, pass-none}
+use Rattle.regions.proofs.masks.next_covering.Statement.{statement}
+use Rattle.regions.proofs.masks.next_covering.Tie as tie
 
 abbrev Inv-loop : tie.InvT-loop
 Inv-loop w from n o x₀ x = (from ≤ x) × (x ≤ n) × Passed w o from x

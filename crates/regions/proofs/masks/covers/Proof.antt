@@ -1,10 +1,10 @@
--- `regions::rules::covers` meets its contract: what is not enabled covers nothing.
+-- `regions::masks::covers` meets its contract: what is not enabled covers nothing.
 use borrow.Author.Needs.{needs}
 use borrow.Author.Tests.{eq-eqb, ne-eqb}
 use Prim.Native.Nat.{_/_, _%_, _^_}
 use lib.ListN.{getD}
-use Rattle.regions.proofs.rules.covers.Statement.{statement}
-use Rattle.regions.proofs.rules.covers.Tie as tie
+use Rattle.regions.proofs.masks.covers.Statement.{statement}
+use Rattle.regions.proofs.masks.covers.Tie as tie
 
 returns : tie.Need-returns
 returns c =

@@ -1,0 +1,210 @@
+-- The tests that the code makes of the gathered words are the rules'.
+use mathlib.Core.Bool.{Bool, true, false, not, _&&_, _||_, cond, Bool·beq, or-true, or-false, true≢false}
+use mathlib.Core.List.{List}
+use mathlib.Core.Path.{_≡_, refl, sym, ap, ap₂, _∙_}
+use Prim.Native.Nat.{ℕ, zero, suc, _+_, _/_, _^_, _≤_, _<_}
+use native.Mathlib.Decide.{decLt}
+use native.Mathlib.Omega.{arith}
+use lib.Bits.{bitOr}
+use lib.Dec.{eqb, lit<}
+use lib.ListN.{getD}
+use borrow.Author.Tests.{not-true, not-false}
+use Rattle.words.specs.Bit.{bit}
+use Rattle.words.proofs.Laws.{bit-ones, bit-pow, bit-shr, bit-word, bit-zero}
+use Rattle.words.proofs.Ops.{bit-or}
+use Rattle.access.specs.Fold.{any, all}
+use Rattle.access.specs.declared.kind.Kind.{Kind}
+use Rattle.access.proofs.Folds.{all-same}
+use Rattle.regions.specs.Words.{base, sub, cidcfgrAt, secBit, privcBit, rdenBit, wrenBit, readBit, writeBit}
+use Rattle.regions.specs.Rules.{Tests, reasonOf, covers, everyBase, srcid, tests0, tests1, tests2, opens, someSub, counted, covered, tests, decided}
+use Rattle.regions.specs.Masks.{masks, Passed, Next}
+use Rattle.regions.specs.Admits.{byDefault, byBases, bySubs, byRegions, admitted, openTo, testsOf, verdictOf}
+use Rattle.regions.specs.declared.admits.Admits.{Admits}
+use Rattle.regions.specs.declared.masks.Masks.{Masks}
+use Rattle.regions.specs.declared.rules.Verdict.{Verdict}
+use Rattle.regions.proofs.MaskBits.{some-bit, every-bit, enables-bit, secure-bit, privileged-bit}
+use Rattle.regions.proofs.Openings.{counted-is, open-bit, reads-right, writes-right}
+
+-- ---- tests that are the same
+
+tests-same : {a b c d e f : Bool} → a ≡ d → b ≡ e → c ≡ f
+    → _≡_ {A = Tests} (record { security = a; privilege = b; compartment = c }) (record { security = d; privilege = e; compartment = f })
+tests-same p q r = cc
+
+-- ---- over all base regions that cover: v says which do
+
+beq-true : (b : Bool) → b ≡ Bool·beq true b
+beq-true true = refl
+beq-true false = refl
+
+beq-false : (b : Bool) → not b ≡ Bool·beq false b
+beq-false true = refl
+beq-false false = refl
+
+every-true : (n : ℕ) (v : ℕ → Bool) → true ≡ all n (λ x. not (v x) || true)
+every-true zero v = refl
+every-true (suc n) v = rw (or-true (not (v n))) (rw (← every-true n v) refl)
+
+not-some : (n : ℕ) (v p : ℕ → Bool) → not (any n (λ x. v x && p x)) ≡ all n (λ x. not (v x) || not (p x))
+not-some zero v p = refl
+not-some (suc n) v p = go (any n (λ x. v x && p x)) (v n) ∙ ap (λ (b : Bool). b && (not (v n) || not (p n))) (not-some n v p)
+  where
+    go : (a c : Bool) → not (a || c && p n) ≡ (not a && (not c || not (p n)))
+    go true c = refl
+    go false true = refl
+    go false false = refl
+
+module _ (w : List ℕ) (n o : ℕ) (k : Kind) (h : k .cid .0 ≤ 7) where
+  abbrev c : ℕ
+  c = k .cid .0
+
+  abbrev m : Masks
+  m = masks w n o
+
+  small : c < 8
+  small = omega (arith, h)
+
+  every-same : (p q : ℕ → Bool) → ((x : ℕ) → p x ≡ q x) → everyBase w n o p ≡ everyBase w n o q
+  every-same p q e = all-same n _ _ (λ x l. ap (λ (b : Bool). not (covers w (base x) o) || b) (e x))
+
+  -- ---- rule 0
+
+  default-tests : testsOf byDefault k ≡ tests0 k
+  unfolding testsOf byDefault
+  default-tests = tests-same (security (k .secure)) (privilege (k .privileged)) (compartment (k .write))
+    where
+      security : (s : Bool) → cond s true false ≡ s
+      security true = refl
+      security false = refl
+
+      privilege : (p : Bool) → (p || not (bit 0xff c)) ≡ p
+      privilege true = refl
+      privilege false = ap not (bit-ones 8 c small)
+
+      compartment : (d : Bool) → bit (cond d 0x82 0x82) c ≡ (eqb c 1 || eqb c 7)
+      compartment true = bit-word 8 (λ i. eqb i 1 || eqb i 7) c small
+      compartment false = bit-word 8 (λ i. eqb i 1 || eqb i 7) c small
+
+  -- ---- rule 1
+
+  bases-security : (s : Bool) → cond s (bit (m .every) secBit) (not (bit (m .some) secBit)) ≡ everyBase w n o (λ x. Bool·beq s (bit (getD w (base x) 0) secBit))
+  bases-security true = every-bit w o n secBit (lit< tt) ∙ every-same _ _ (λ x. beq-true (bit (getD w (base x) 0) secBit))
+  bases-security false =
+      ap not (some-bit w o n secBit) ∙ not-some n (λ x. covers w (base x) o) (λ x. bit (getD w (base x) 0) secBit)
+      ∙ every-same _ _ (λ x. beq-false (bit (getD w (base x) 0) secBit))
+
+  bases-privilege : (p : Bool) → (p || not (bit (m .some / 2 ^ 16) c)) ≡ everyBase w n o (λ x. p || not (bit (getD w (base x) 0) (privcBit c)))
+  bases-privilege true = every-true n (λ x. covers w (base x) o)
+  bases-privilege false =
+      ap not (bit-shr (m .some) 16 c ∙ some-bit w o n (16 + c)) ∙ not-some n (λ x. covers w (base x) o) (λ x. bit (getD w (base x) 0) (16 + c))
+
+  -- the enables from bit `at`
+  bases-enabled : (at x : ℕ) → at + c < 32 → bit x c ≡ bit (m .enables) (at + c)
+      → bit (bitOr x 0x80) c ≡ everyBase w n o (λ y. eqb c 7 || bit (getD w (base y + cidcfgrAt) 0) (at + c))
+  bases-enabled at x l e =
+      bit-or x 0x80 c ∙ ap₂ _||_ (e ∙ enables-bit w o n (at + c) l) (bit-pow 7 c) ∙ go (eqb c 7)
+    where
+      go : (t : Bool)
+          → (everyBase w n o (λ y. bit (getD w (base y + cidcfgrAt) 0) (at + c)) || t)
+          ≡ everyBase w n o (λ y. t || bit (getD w (base y + cidcfgrAt) 0) (at + c))
+      go true = or-true (everyBase w n o (λ y. bit (getD w (base y + cidcfgrAt) 0) (at + c))) ∙ every-true n (λ y. covers w (base y) o)
+      go false = or-false (everyBase w n o (λ y. bit (getD w (base y + cidcfgrAt) 0) (at + c)))
+
+  bases-compartment : (d : Bool)
+      → bit (cond d (bitOr (m .enables / 2 ^ 16) 0x80) (bitOr (m .enables) 0x80)) c
+      ≡ everyBase w n o (λ x. eqb c 7 || cond d (bit (getD w (base x + cidcfgrAt) 0) (writeBit c)) (bit (getD w (base x + cidcfgrAt) 0) (readBit c)))
+  bases-compartment true = bases-enabled 16 (m .enables / 2 ^ 16) (omega (arith, h)) (bit-shr (m .enables) 16 c)
+  bases-compartment false =
+      let e : 0 + c ≡ c = omega arith in
+      bases-enabled 0 (m .enables) (omega (arith, h)) (ap (bit (m .enables)) (sym e))
+      ∙ every-same _ _ (λ x. ap (λ (i : ℕ). eqb c 7 || bit (getD w (base x + cidcfgrAt) 0) i) e)
+
+  bases-tests : testsOf (byBases m) k ≡ tests1 w n o k
+  unfolding testsOf byBases
+  bases-tests = tests-same (bases-security (k .secure)) (bases-privilege (k .privileged)) (bases-compartment (k .write))
+
+  -- ---- rule 2
+
+  subs-security : (s b d : Bool) → b ≡ d → cond s b (not b) ≡ Bool·beq s d
+  subs-security true b d e = beq-true b ∙ ap (Bool·beq true) e
+  subs-security false b d e = beq-false b ∙ ap (Bool·beq false) e
+
+  subs-closed : (b d : Bool) → b ≡ d → bit (cond b 0xff 0) c ≡ d
+  subs-closed true d e = bit-ones 8 c small ∙ e
+  subs-closed false d e = bit-zero c ∙ e
+
+  subs-compartment : (d : Bool) → bit (openTo (bySubs m) d) c
+      ≡ someSub w n o (λ x s. (eqb (srcid w x s .0) c || eqb c 7) && cond d (bit (getD w (sub x s) 0) wrenBit) (bit (getD w (sub x s) 0) rdenBit))
+  unfolding bySubs
+  subs-compartment true = open-bit w o 16 wrenBit (writes-right w) n c small
+  subs-compartment false = open-bit w o 0 rdenBit (reads-right w) n c small
+
+  subs-tests : testsOf (bySubs m) k ≡ tests2 w n o k
+  unfolding testsOf bySubs
+  subs-tests =
+      tests-same (subs-security (k .secure) _ _ (secure-bit w o n))
+      (ap (λ (b : Bool). k .privileged || not b) (subs-closed _ _ (privileged-bit w o n))) (subs-compartment (k .write))
+
+-- ---- which rule governs
+
+neither : (a b : Bool) → (a || b) ≡ false → (a ≡ false) × (b ≡ false)
+neither true b e = absurd (true≢false e)
+neither false b e = (refl, e)
+
+module _ (w : List ℕ) (o : ℕ) where
+  pub none-covered : (n : ℕ) → Passed w o 0 n → covered w n o ≡ false
+  none-covered zero passed = refl
+  none-covered (suc n) passed =
+      rw (none-covered n (λ y a b. passed y a (omega arith)), passed n (omega arith) (omega arith)) refl
+
+  pub some-covered : (n x : ℕ) → x < n → covers w (base x) o ≡ true → covered w n o ≡ true
+  some-covered zero x h e = absurd (omega arith)
+  some-covered (suc n) x h e = go (decLt x n) (λ l. some-covered n x l e)
+    where
+      go : Dec (x < n) → (x < n → covered w n o ≡ true) → (covered w n o || covers w (base n) o) ≡ true
+      go (yes l) below = rw (below l) refl
+      go (no r) below =
+          let q : n ≡ x = omega arith in
+          rw q (rw e (or-true (covered w x o)))
+
+  -- where no base region covers, no subregion counts
+  none-counted : (n : ℕ) → covered w n o ≡ false → counted w n o ≡ false
+  none-counted zero e = refl
+  none-counted (suc n) e =
+      let d = neither (covered w n o) (covers w (base n) o) e in
+      rw (none-counted n (d .0), d .1) refl
+
+-- what the code's search finds
+module _ (w : List ℕ) (n o : ℕ) {r : ℕ} (next : Next w o 0 n r) where
+  pub none-found : r ≡ n → byDefault ≡ admitted w n o
+  unfolding admitted
+  none-found e = rw (none-covered w o n (λ y a b. next .passed y a (omega (arith, e, b)))) refl
+
+  pub one-found : (r ≡ n → ⊥) → byRegions (masks w n o) ≡ admitted w n o
+  unfolding admitted
+  one-found d =
+      let l : r < n = omega (arith, next .high, d) in
+      rw (some-covered w o n r l (next .found l)) refl
+
+-- ---- the theorem
+
+pub verdict-is : (w : List ℕ) (n o : ℕ) (k : Kind) → k .cid .0 ≤ 7 → verdictOf (admitted w n o) k ≡ decided w n o k
+unfolding verdictOf admitted byRegions byDefault byBases bySubs decided tests
+verdict-is w n o k h = by (covered w n o) refl (counted w n o) refl
+  where
+    -- of either rule
+    verdict : (a : Admits) (r : ℕ) (t : Tests) → a .rule ≡ r → testsOf a k ≡ t
+        → _≡_ {A = Verdict} (record { rule = a .rule; reason = reasonOf (testsOf a k) }) (record { rule = r; reason = reasonOf t })
+    verdict a r t e f = ap₂ (λ (r : ℕ) (t : Tests). record { rule = r; reason = reasonOf t }) e f
+
+    by : (d : Bool) → covered w n o ≡ d → (c : Bool) → counted w n o ≡ c
+        → verdictOf (cond d (cond (eqb (masks w n o .opens) 0) (byBases (masks w n o)) (bySubs (masks w n o))) byDefault) k
+        ≡ record { rule = cond c 2 (cond d 1 0); reason = reasonOf (cond c (tests2 w n o k) (cond d (tests1 w n o k) (tests0 k))) }
+    by true e true f =
+        ap (λ (b : Bool). verdictOf (cond b (byBases (masks w n o)) (bySubs (masks w n o))) k) (not-true (eqb (masks w n o .opens) 0) (counted-is w n o ∙ f))
+        ∙ verdict (bySubs (masks w n o)) 2 (tests2 w n o k) refl (subs-tests w n o k h)
+    by true e false f =
+        ap (λ (b : Bool). verdictOf (cond b (byBases (masks w n o)) (bySubs (masks w n o))) k) (not-false (eqb (masks w n o .opens) 0) (counted-is w n o ∙ f))
+        ∙ verdict (byBases (masks w n o)) 1 (tests1 w n o k) refl (bases-tests w n o k h)
+    by false e true f = absurd (true≢false (sym f ∙ none-counted w o n e))
+    by false e false f = verdict byDefault 0 (tests0 k) refl (default-tests w n o k h)

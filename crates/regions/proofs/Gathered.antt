@@ -1,0 +1,40 @@
+-- The words of n base regions, gathered one after the other.
+use mathlib.Core.Bool.{Bool, false}
+use mathlib.Core.List.{List}
+use mathlib.Core.Path.{_≡_, refl, sym, ap, _∙_}
+use Prim.Native.Nat.{ℕ, zero, suc, _+_, _<_}
+use native.Mathlib.Decide.{decLt}
+use native.Mathlib.Omega.{arith}
+use native.Mathlib.Numerals.{add-one}
+use Rattle.regions.specs.Words.{base}
+use Rattle.regions.specs.Rules.{covers}
+use Rattle.regions.specs.Masks.{masks, baseGathered, Passed}
+use Rattle.regions.specs.declared.masks.Masks.{Masks}
+
+-- ---- base regions that are passed by
+
+module _ (w : List ℕ) (o from : ℕ) where
+  pub pass-none : Passed w o from from
+  pass-none y h l = absurd (omega arith)
+
+  pub pass-more : (x : ℕ) {c : Bool} → Passed w o from x → c ≡ covers w (base x) o → c ≡ false → Passed w o from (x + 1)
+  pass-more x {c} before e out y h l = go (decLt y x)
+    where
+      go : Dec (y < x) → covers w (base y) o ≡ false
+      go (yes q) = before y h q
+      go (no q) =
+          let same : y ≡ x = omega arith in
+          rw same (sym e ∙ out)
+
+-- they say nothing
+pub masks-pass : (w : List ℕ) (o r : ℕ) → Passed w o 0 r → masks w 0 o ≡ masks w r o
+unfolding masks baseGathered
+masks-pass w o zero passed = refl
+masks-pass w o (suc r) passed =
+    masks-pass w o r (λ y a b. passed y a (omega arith)) ∙ rw (passed r (omega arith) (omega arith)) refl
+
+-- one base region more, by the code's call
+pub masks-more : (w : List ℕ) (n o : ℕ) {l m : Masks} → l ≡ masks w n o → m ≡ baseGathered w n o l
+    → m ≡ masks w (n + 1) o
+unfolding masks
+masks-more w n o el em = em ∙ ap (baseGathered w n o) el ∙ sym (ap (λ (i : ℕ). masks w i o) (add-one n))

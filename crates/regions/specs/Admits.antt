@@ -1,0 +1,92 @@
+-- What the code of the rules and of the rights word goes by: the three tests of the rule that governs an offset, for all compartments at
+-- once, bit c of a mask for CID c. proofs/AdmitsTests has the law that they are Rules.antt's.
+use mathlib.Core.Bool.{Bool, true, false, not, _||_, cond}
+use mathlib.Core.List.{List}
+use Prim.Native.Nat.{ℕ, _+_, _*_, _/_, _^_}
+use lib.Bits.{bitOr}
+use lib.Dec.{eqb}
+use Rattle.words.specs.Bit.{bit, one, word, field}
+use Rattle.access.specs.Kind.{kindOf}
+use Rattle.access.specs.declared.kind.Kind.{Kind}
+use Rattle.regions.specs.Words.{secBit, privcBit, readBit, writeBit}
+use Rattle.regions.specs.Rules.{Tests, reasonOf, granted, covered}
+use Rattle.regions.specs.Masks.{masks}
+use Rattle.regions.specs.declared.admits.Admits.{Admits}
+use Rattle.regions.specs.declared.masks.Masks.{Masks}
+use Rattle.regions.specs.declared.rules.Verdict.{Verdict}
+
+-- ---- by the rule that governs
+
+-- rule 0: secure; no compartment unprivileged; CID 1, and CID 7
+unfoldable pub byDefault : Admits
+byDefault = record { rule = 0; secure = true; nonsecure = false; closed = 0xff; reads = 0x82; writes = 0x82 }
+
+-- rule 1, with CID 7 enabled
+unfoldable pub byBases : Masks → Admits
+byBases m =
+    record {
+      rule = 1;
+      secure = bit (m .every) secBit;
+      nonsecure = not (bit (m .some) secBit);
+      closed = m .some / 2 ^ privcBit 0;
+      reads = bitOr (m .enables) 0x80;
+      writes = bitOr (m .enables / 2 ^ writeBit 0) 0x80;
+    }
+
+-- the compartments of a mask, and CID 7 where there are any
+unfoldable pub withDebugger : ℕ → ℕ
+withDebugger mask = cond (eqb mask 0) 0 (bitOr mask 0x80)
+
+-- rule 2
+unfoldable pub bySubs : Masks → Admits
+bySubs m =
+    record {
+      rule = 2;
+      secure = bit (m .secure) secBit;
+      nonsecure = not (bit (m .secure) secBit);
+      closed = cond (bit (m .privileged) 0) 0xff 0;
+      reads = withDebugger (field (m .opens) (readBit 0) 8);
+      writes = withDebugger (field (m .opens) (writeBit 0) 8);
+    }
+
+-- where some base region covers: a subregion counts where opens has a bit
+unfoldable pub byRegions : Masks → Admits
+byRegions m = cond (eqb (m .opens) 0) (byBases m) (bySubs m)
+
+unfoldable pub admitted : List ℕ → ℕ → ℕ → Admits
+admitted w n o = cond (covered w n o) (byRegions (masks w n o)) byDefault
+
+-- ---- the tests
+
+-- this security passes
+abbrev pub admitsSecurity : Admits → Bool → Bool
+admitsSecurity a secure = cond secure (a .secure) (a .nonsecure)
+
+-- the compartments that pass in this direction
+abbrev pub openTo : Admits → Bool → ℕ
+openTo a write = cond write (a .writes) (a .reads)
+
+unfoldable pub testsOf : Admits → Kind → Tests
+testsOf a k =
+    record {
+      security = admitsSecurity a (k .secure);
+      privilege = k .privileged || not (bit (a .closed) (k .cid .0));
+      compartment = bit (openTo a (k .write)) (k .cid .0);
+    }
+
+unfoldable pub verdictOf : Admits → Kind → Verdict
+verdictOf a k = record { rule = a .rule; reason = reasonOf (testsOf a k) }
+
+-- ---- the rights
+
+-- the wide bits of the rights word from bit at
+unfoldable pub rightsFrom : Admits → ℕ → ℕ → ℕ
+rightsFrom a at wide = word wide (λ i. granted (verdictOf a (kindOf (at + i))))
+
+-- where the byte of a direction, a privilege and a security begins
+abbrev pub byteAt : Bool → Bool → Bool → ℕ
+byteAt write privileged secure = 8 * (one write + 2 * one privileged + 4 * one secure)
+
+-- that byte: bit c is what they say to CID c
+abbrev pub byteOf : Admits → Bool → Bool → Bool → ℕ
+byteOf a write privileged secure = rightsFrom a (byteAt write privileged secure) 8

@@ -1,0 +1,127 @@
+use crate::masks::Masks;
+use crate::masks::gathered;
+use crate::places::PRIVC;
+use crate::places::READS;
+use crate::places::SEC;
+use crate::places::WRITES;
+ghost use mathlib.Core.Bool.{cond};
+ghost use mathlib.Core.Path.{_≡_};
+ghost use Prim.Native.Nat.{_≤_};
+ghost use lib.ListN.{length};
+ghost use Rattle.regions.specs.Words.{base};
+ghost use Rattle.regions.specs.Masks.{Passed, masks};
+ghost use Rattle.regions.specs.Admits.{admitsSecurity, byBases, byDefault, byRegions, bySubs, openTo, withDebugger};
+
+// Who passes the tests of the rule that governs an offset, in their order: security, privilege, compartment and direction. Bit c of a
+// mask is CID c; what is above bit 7 means nothing.
+pub(crate) struct Admits {
+    pub(crate) rule: u32,
+    pub(crate) secure: bool,
+    pub(crate) nonsecure: bool,
+    // The compartments that fail where unprivileged.
+    pub(crate) closed: u32,
+    pub(crate) reads: u32,
+    pub(crate) writes: u32,
+}
+
+// All compartments; the debugger's, which passes every compartment test; those that rule 0 admits.
+const ALL: u32 = 0xff;
+
+const DEBUGGERS: u32 = 0x80;
+
+const DEFAULTS: u32 = 0x82;
+
+// Rule 0.
+pub(crate) fn by_default() -> Admits
+    ensures { λ r. ⌜ r ≡ byDefault ⌝ }
+{
+    Admits {
+        rule: 0,
+        secure: true,
+        nonsecure: false,
+        closed: ALL,
+        reads: DEFAULTS,
+        writes: DEFAULTS,
+    }
+}
+
+// Rule 1.
+fn by_bases(m: Masks) -> Admits
+    ensures { λ r. ⌜ r ≡ byBases m ⌝ }
+{
+    Admits {
+        rule: 1,
+        secure: (m.every >> SEC) % 2 == 1,
+        nonsecure: !((m.some >> SEC) % 2 == 1),
+        closed: m.some >> PRIVC,
+        reads: m.enables | DEBUGGERS,
+        writes: (m.enables >> WRITES) | DEBUGGERS,
+    }
+}
+
+// The compartments of a mask, and the debugger's where there are any.
+fn with_debugger(mask: u32) -> u32
+    ensures { λ r. ⌜ r ≡ withDebugger mask ⌝ }
+{
+    if mask == 0 {
+        return 0;
+    }
+    mask | DEBUGGERS
+}
+
+// All compartments, or none.
+fn all_if(b: bool) -> u32
+    ensures { λ r. ⌜ r ≡ cond b 255 0 ⌝ }
+{
+    if b { ALL } else { 0 }
+}
+
+// Rule 2.
+fn by_subs(m: Masks) -> Admits
+    ensures { λ r. ⌜ r ≡ bySubs m ⌝ }
+{
+    let secure = (m.secure >> SEC) % 2 == 1;
+    let closed = all_if((m.privileged >> 0) % 2 == 1);
+    let reads = with_debugger((m.opens >> READS) % 0x100);
+    let writes = with_debugger((m.opens >> WRITES) % 0x100);
+    Admits {
+        rule: 2,
+        secure,
+        nonsecure: !secure,
+        closed,
+        reads,
+        writes,
+    }
+}
+
+// Rule 2, or else rule 1, by the words of n base regions of which some one covers and none below `from` does.
+pub(crate) fn by_regions(w: &[u32], from: usize, n: usize, o: u32) -> Admits
+    requires { ⌜ (from ≤ n) × (base n ≤ length (now w)) × Passed (now w) o 0 from ⌝ }
+    ensures { λ r. ⌜ r ≡ byRegions (masks (now (w .entry)) n o) ⌝ }
+{
+    let m = gathered(w, from, n, o);
+    if m.opens == 0 {
+        return by_bases(m);
+    }
+    by_subs(m)
+}
+
+// Whether this security passes.
+pub(crate) fn admits_security(a: Admits, secure: bool) -> bool
+    ensures { λ r. ⌜ r ≡ admitsSecurity a secure ⌝ }
+{
+    if secure {
+        return a.secure;
+    }
+    a.nonsecure
+}
+
+// The compartments that pass in this direction.
+pub(crate) fn open_to(a: Admits, write: bool) -> u32
+    ensures { λ r. ⌜ r ≡ openTo a write ⌝ }
+{
+    if write {
+        return a.writes;
+    }
+    a.reads
+}
