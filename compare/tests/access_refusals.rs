@@ -92,7 +92,7 @@ fn masters() {
     assert_eq!(master(&mut device, 12, 2, 0, 3), (4, 0));
     assert_eq!(master(&mut device, 12, 2, 2, 4), (5, 0));
     assert_eq!(master(&mut device, 12, 2, 1 << 20, 4), (6, 0));
-    assert_eq!(master(&mut device, 12, 2, 4, 4), (1, 0));
+    assert_eq!(master(&mut device, 12, 2, 4, 4), (1, 1));
     assert_eq!(word(&mut device, GUARD, 0x20), 0);
     assert_eq!(word(&mut device, GUARD, 0x24), 4);
     set(&mut device, RIFSC, 0xC40, 0x310);

@@ -32,16 +32,16 @@ fn w1_default_rule_grants() {
 #[test]
 fn w2_w3_first_fault_is_kept() {
     let mut device = Device::reset_state();
-    assert_eq!(memory(&mut device, 2, 0, 2, "r sp"), (1, 0));
+    assert_eq!(memory(&mut device, 2, 0, 2, "r sp"), (1, 3));
     assert_eq!(word(&mut device, IAC, ISR4), 0x0000_1000);
     assert_eq!(word(&mut device, GUARD, IAESR), 0x0000_0032);
-    assert_eq!(memory(&mut device, 2, 0x40, 3, "w np"), (1, 0));
+    assert_eq!(memory(&mut device, 2, 0x40, 3, "w np"), (1, 1));
     assert_eq!(word(&mut device, GUARD, IAESR), 0x0000_0032);
     assert_eq!(word(&mut device, GUARD, 0x24), 0);
     assert_eq!(word(&mut device, GUARD, 0x08), 2);
     set(&mut device, GUARD, 0x0C, 2);
     assert_eq!(word(&mut device, GUARD, 0x08), 0);
-    assert_eq!(memory(&mut device, 2, 0x40, 3, "w np"), (1, 0));
+    assert_eq!(memory(&mut device, 2, 0x40, 3, "w np"), (1, 1));
     assert_eq!(word(&mut device, GUARD, IAESR), 0x0000_0093);
     assert_eq!(word(&mut device, GUARD, 0x24), 0x40);
 }
@@ -50,7 +50,7 @@ fn w2_w3_first_fault_is_kept() {
 fn w4_cid_7() {
     let mut device = Device::reset_state();
     assert_eq!(memory(&mut device, 2, 0, 7, "r sp"), (0, 0));
-    assert_eq!(memory(&mut device, 2, 0, 7, "r np"), (1, 0));
+    assert_eq!(memory(&mut device, 2, 0, 7, "r np"), (1, 1));
 }
 
 #[test]
@@ -107,8 +107,8 @@ fn w11_base_region() {
     let mut device = w11();
     assert_eq!(memory(&mut device, 2, 0x10000, 2, "r nu"), (0, 1));
     assert_eq!(memory(&mut device, 2, 0x1FFFF, 2, "r nu"), (0, 1));
-    assert_eq!(memory(&mut device, 2, 0x0FFFF, 2, "r nu"), (1, 0));
-    assert_eq!(memory(&mut device, 2, 0x20000, 2, "r nu"), (1, 0));
+    assert_eq!(memory(&mut device, 2, 0x0FFFF, 2, "r nu"), (1, 1));
+    assert_eq!(memory(&mut device, 2, 0x20000, 2, "r nu"), (1, 1));
 }
 
 #[test]
@@ -118,9 +118,9 @@ fn w12_subregion() {
     set(&mut device, GUARD, 0x58, 0x0001_0FFF);
     set(&mut device, GUARD, 0x50, 0x0000_1121);
     assert_eq!(memory(&mut device, 2, 0x10000, 2, "r nu"), (0, 2));
-    assert_eq!(memory(&mut device, 2, 0x10000, 2, "r su"), (1, 0));
-    assert_eq!(memory(&mut device, 2, 0x10000, 1, "r nu"), (1, 0));
-    assert_eq!(memory(&mut device, 2, 0x10000, 2, "w nu"), (1, 0));
+    assert_eq!(memory(&mut device, 2, 0x10000, 2, "r su"), (1, 1));
+    assert_eq!(memory(&mut device, 2, 0x10000, 1, "r nu"), (1, 3));
+    assert_eq!(memory(&mut device, 2, 0x10000, 2, "w nu"), (1, 3));
     assert_eq!(memory(&mut device, 2, 0x11000, 2, "r nu"), (0, 1));
 }
 
@@ -154,7 +154,7 @@ fn w14_granule_bits() {
 #[test]
 fn base_region_with_sec_0_shuts_secure_asking_out() {
     let mut device = w11();
-    assert_eq!(memory(&mut device, 2, 0x10000, 2, "r sp"), (1, 0));
+    assert_eq!(memory(&mut device, 2, 0x10000, 2, "r sp"), (1, 1));
     assert_eq!(common::peripheral(&mut device, 0, Purpose::Read, "sp"), 0);
 }
 
@@ -176,7 +176,7 @@ fn subregion_does_not_govern_outside_its_base() {
     set(&mut device, GUARD, 0x54, 0x0000_0000);
     set(&mut device, GUARD, 0x58, 0x0001_0FFF);
     set(&mut device, GUARD, 0x50, 0x0000_1121);
-    assert_eq!(memory(&mut device, 2, 0xFFFF, 2, "r nu"), (1, 0));
+    assert_eq!(memory(&mut device, 2, 0xFFFF, 2, "r nu"), (1, 1));
     assert_eq!(memory(&mut device, 2, 0xFFFF, 1, "r sp"), (0, 0));
     assert_eq!(memory(&mut device, 2, 0x10000, 2, "r nu"), (0, 2));
 }

@@ -136,7 +136,7 @@ fn other_events_leave_both() {
         left(&|d| assert_eq!(read(d, IAC, IER0, "np"), (1, 0)));
         left(&|d| assert_eq!(write(d, IAC, ICR0, 1, "su"), 1));
         left(&|d| assert_eq!(write(d, Block::Rifsc, 0x010, 0, "nu"), 1));
-        left(&|d| assert_eq!(memory(d, 2, 0, 1, "r nu"), (1, 0)));
+        left(&|d| assert_eq!(memory(d, 2, 0, 1, "r nu"), (1, 1)));
         // Writes that change no bit, or none that is present.
         left(&|d| set(d, IAC, IER0, 0x85));
         left(&|d| set(d, IAC, IER0, 0x05));

@@ -16,18 +16,30 @@ fn covers(start: u32, end: u32, offset: u32) -> bool {
     start <= end && (start..=end).contains(&offset)
 }
 
-fn base_grants(region: &Region, ask: &MemoryAccess) -> bool {
+/// The tests for security, for privilege, for compartment and direction.
+type Tests = [bool; 3];
+
+fn default_tests(ask: &MemoryAccess) -> Tests {
+    [ask.secure, ask.privileged, ask.cid == 1 || ask.cid == 7]
+}
+
+/// Each test over all regions.
+fn base_tests(bases: &[&Region], ask: &MemoryAccess) -> Tests {
     let first_enable = if ask.direction == Direction::Write {
         16
     } else {
         0
     };
-    ask.secure == bit(region.cfgr, 8)
-        && (ask.privileged || !bit(region.cfgr, 16 + ask.cid))
-        && (bit(region.cidcfgr, first_enable + ask.cid) || ask.cid == 7)
+    let enable = first_enable + ask.cid;
+    let all = |test: &dyn Fn(&Region) -> bool| bases.iter().all(|base| test(base));
+    [
+        all(&|base| ask.secure == bit(base.cfgr, 8)),
+        all(&|base| ask.privileged || !bit(base.cfgr, 16 + ask.cid)),
+        all(&|base| bit(base.cidcfgr, enable) || ask.cid == 7),
+    ]
 }
 
-fn subregions_grant(counting: &[(&Region, &Subregion)], ask: &MemoryAccess) -> bool {
+fn subregion_tests(counting: &[(&Region, &Subregion)], ask: &MemoryAccess) -> Tests {
     let srcid = |sub: &Subregion| sub.cfgr / 16 % 8;
     let all_sec = counting
         .iter()
@@ -40,15 +52,18 @@ fn subregions_grant(counting: &[(&Region, &Subregion)], ask: &MemoryAccess) -> b
     } else {
         12
     };
-    ask.secure == all_sec
-        && (ask.privileged || !all_priv)
-        && counting
-            .iter()
-            .any(|(_, sub)| (srcid(sub) == ask.cid || ask.cid == 7) && bit(sub.cfgr, enable))
+    let one_opens = counting
+        .iter()
+        .any(|(_, sub)| (srcid(sub) == ask.cid || ask.cid == 7) && bit(sub.cfgr, enable));
+    [
+        ask.secure == all_sec,
+        ask.privileged || !all_priv,
+        one_opens,
+    ]
 }
 
-/// The rule's number, and whether it grants.
-fn judged(guard: &Guard, ask: &MemoryAccess) -> (u32, bool) {
+/// The rule's number, and that of the first test that fails, from 1.
+fn judged(guard: &Guard, ask: &MemoryAccess) -> (u32, Option<u32>) {
     let bases: Vec<&Region> = guard
         .own_regions()
         .iter()
@@ -59,20 +74,22 @@ fn judged(guard: &Guard, ask: &MemoryAccess) -> (u32, bool) {
         .flat_map(|&base| base.subregions.iter().map(move |sub| (base, sub)))
         .filter(|(_, s)| bit(s.cfgr, 0) && covers(s.start, s.end, ask.offset))
         .collect();
-    if !counting.is_empty() {
-        (2, subregions_grant(&counting, ask))
+    let (rule, tests) = if !counting.is_empty() {
+        (2, subregion_tests(&counting, ask))
     } else if !bases.is_empty() {
-        (1, bases.iter().all(|base| base_grants(base, ask)))
+        (1, base_tests(&bases, ask))
     } else {
-        let granted = ask.secure && ask.privileged && (ask.cid == 1 || ask.cid == 7);
-        (0, granted)
-    }
+        (0, default_tests(ask))
+    };
+    let failing = (1..).zip(tests).find(|(_, passed)| !passed);
+    (rule, failing.map(|(reason, _)| reason))
 }
 
 #[test]
 fn memory_accesses_follow_the_rules() {
     let mut random = Random::new(4);
-    let mut granted_by = [0; 3];
+    // For each rule how often it granted, and how often it refused for which reason.
+    let mut counts = [[0; 4]; 3];
     for _ in 0..2_000 {
         let mut device = random.device();
         for _ in 0..300 {
@@ -84,17 +101,15 @@ fn memory_accesses_follow_the_rules() {
             if !fits || ask.cid > 7 || !ask.offset.is_multiple_of(ask.width) {
                 continue;
             }
-            let (rule, granted) = judged(guard, &ask);
+            let (rule, reason) = judged(guard, &ask);
             let answer = device.apply(&Event::Memory(ask));
-            let expected = if granted { (0, rule) } else { (1, 0) };
+            let expected = reason.map_or((0, rule), |reason| (1, reason));
             assert_eq!((answer.number(), answer.value()), expected);
-            granted_by[rule as usize] += u32::from(granted);
+            counts[rule as usize][reason.unwrap_or(0) as usize] += 1;
         }
     }
-    assert!(
-        granted_by.iter().all(|&count| count > 1_000),
-        "{granted_by:?}"
-    );
+    let mut all = counts.iter().flatten();
+    assert!(all.all(|&count| count > 1_000), "{counts:?}");
 }
 
 fn ask_of_kind(guard: u32, offset: u32, kind: u32) -> MemoryAccess {
@@ -116,7 +131,11 @@ fn ask_of_kind(guard: u32, offset: u32, kind: u32) -> MemoryAccess {
 fn rights_at(device: &Device, number: u32, offset: u32) -> u64 {
     let guard = device.guard(number).unwrap();
     (0..64)
-        .filter(|&kind| judged(guard, &ask_of_kind(number, offset, kind)).1)
+        .filter(|&kind| {
+            judged(guard, &ask_of_kind(number, offset, kind))
+                .1
+                .is_none()
+        })
         .fold(0, |rights, kind| rights | 1 << kind)
 }
 

@@ -134,7 +134,7 @@ fn faults_keep_unnamed_bits() {
     let mut device = Device::reset_state();
     device.guard_mut(2).unwrap().iaesr = 0xFFFF_FFFF;
     device.guard_mut(2).unwrap().iasr = 0xFFFF_FFFC;
-    assert_eq!(common::memory(&mut device, 2, 0x123, 2, "w sp"), (1, 0));
+    assert_eq!(common::memory(&mut device, 2, 0x123, 2, "w sp"), (1, 3));
     let guard = device.guard(2).unwrap();
     assert_eq!((guard.iaesr, guard.iaddr), (0xFFFF_FFFA, 0x123));
     assert_eq!(guard.iasr, 0xFFFF_FFFE);

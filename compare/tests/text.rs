@@ -36,7 +36,11 @@ fn every_kind_of_line() {
         ("mem 2 00000001 1 w 7 s p", "ans 0 00000000"),
         ("mem 2 00100000 4 w 7 s p", "ans 6 00000000"),
         ("mem 2 00100000 4 w 4294967295 s p", "ans 4 00000000"),
-        ("dma 0 2 00000000 4 r", "ans 1 00000000"),
+        ("dma 0 2 00000000 4 r", "ans 1 00000001"),
+        ("mem 2 00000000 4 r 1 n p", "ans 1 00000001"),
+        ("mem 2 00000000 4 r 1 s u", "ans 1 00000002"),
+        ("mem 2 00000000 4 r 2 s p", "ans 1 00000003"),
+        ("reg iac 00000000 r 00000000 n u", "ans 1 00000000"),
         ("dma 13 2 00000000 4 r", "ans 4 00000000"),
         ("map 10", "ans 4 00000000"),
         ("map 4294967295", "ans 4 00000000"),
@@ -128,7 +132,7 @@ fn bad_lines_are_counted_and_change_nothing() {
         .collect();
     assert_eq!(
         output(&input),
-        format!("ans 1 00000000\n{bad}ans 0 00000010\n")
+        format!("ans 1 00000003\n{bad}ans 0 00000010\n")
     );
 }
 

@@ -127,7 +127,7 @@ impl Device {
 
     /// A refusal for want of rights raises its flag in the IAC.
     fn raise_if_refused(&mut self, answer: Answer, index: u32) -> Answer {
-        if answer == Answer::Refused {
+        if answer.rights_fail() {
             self.iac.raise(index);
         }
         answer

@@ -50,12 +50,13 @@ impl Guard {
         if u64::from(offset) >= self.shape.window {
             return Answer::PastWindow;
         }
-        let governing = Governing::at(self.own_regions(), offset);
-        if governing.grants(asking) {
-            return Answer::Granted(governing.rule());
+        match Governing::at(self.own_regions(), offset).judge(asking) {
+            Ok(rule) => Answer::Granted(rule),
+            Err(reason) => {
+                self.record_fault(offset, asking);
+                Answer::Denied(reason)
+            }
         }
-        self.record_fault(offset, asking);
-        Answer::Refused
     }
 
     /// The first fault is kept until IAEF is cleared.

@@ -14,7 +14,7 @@ mod rifsc;
 mod rule;
 mod shape;
 
-pub use answer::{Answer, Rule};
+pub use answer::{Answer, Reason, Rule};
 pub use device::Device;
 pub use event::{
     Block, Direction, Event, MasterAccess, MemoryAccess, PeripheralAccess, Purpose, RegisterAccess,

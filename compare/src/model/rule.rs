@@ -1,6 +1,6 @@
 //! Which rule governs an offset of a guard's window, and what it grants.
 
-use super::answer::Rule;
+use super::answer::{Reason, Rule};
 use super::bits::bit;
 use super::region::{Region, Subregion};
 
@@ -15,6 +15,30 @@ pub struct Asking {
     pub write: bool,
     pub secure: bool,
     pub privileged: bool,
+}
+
+/// What the three tests give, each made over all that governs before the next.
+struct Tests {
+    security: bool,
+    privilege: bool,
+    /// Compartment and direction.
+    compartment: bool,
+}
+
+impl Tests {
+    /// The first test that fails is the reason.
+    fn outcome(&self) -> Result<(), Reason> {
+        if !self.security {
+            return Err(Reason::Security);
+        }
+        if !self.privilege {
+            return Err(Reason::Privilege);
+        }
+        if !self.compartment {
+            return Err(Reason::Compartment);
+        }
+        Ok(())
+    }
 }
 
 /// The governing rule with all that it demands at one offset.
@@ -67,20 +91,21 @@ impl BaseTerms {
         self.writers &= region.writers();
     }
 
-    fn grants(&self, asking: Asking) -> bool {
-        let security_met = if asking.secure {
-            self.secure
-        } else {
-            self.nonsecure
-        };
+    fn tests(&self, asking: Asking) -> Tests {
         let enabled = if asking.write {
             self.writers
         } else {
             self.readers
         };
-        security_met
-            && (asking.privileged || !bit(self.privc, asking.cid))
-            && (asking.cid == ANY_COMPARTMENT || bit(enabled, asking.cid))
+        Tests {
+            security: if asking.secure {
+                self.secure
+            } else {
+                self.nonsecure
+            },
+            privilege: asking.privileged || !bit(self.privc, asking.cid),
+            compartment: asking.cid == ANY_COMPARTMENT || bit(enabled, asking.cid),
+        }
     }
 }
 
@@ -102,18 +127,30 @@ impl SubregionTerms {
         self.writers |= u32::from(subregion.write_enabled()) << srcid;
     }
 
-    fn grants(&self, asking: Asking) -> bool {
+    fn tests(&self, asking: Asking) -> Tests {
         let enabled = if asking.write {
             self.writers
         } else {
             self.readers
         };
-        let owner_met = if asking.cid == ANY_COMPARTMENT {
-            enabled != 0
-        } else {
-            bit(enabled, asking.cid)
-        };
-        asking.secure == self.secure && (asking.privileged || !self.privileged) && owner_met
+        Tests {
+            security: asking.secure == self.secure,
+            privilege: asking.privileged || !self.privileged,
+            compartment: if asking.cid == ANY_COMPARTMENT {
+                enabled != 0
+            } else {
+                bit(enabled, asking.cid)
+            },
+        }
+    }
+}
+
+/// Where no region covers.
+fn default_tests(asking: Asking) -> Tests {
+    Tests {
+        security: asking.secure,
+        privilege: asking.privileged,
+        compartment: asking.cid == 1 || asking.cid == ANY_COMPARTMENT,
     }
 }
 
@@ -139,24 +176,14 @@ impl Governing {
         }
     }
 
-    pub fn rule(&self) -> Rule {
-        match self {
-            Governing::Default => Rule::Default,
-            Governing::Base(_) => Rule::Base,
-            Governing::Subregion(_) => Rule::Subregion,
-        }
-    }
-
-    pub fn grants(&self, asking: Asking) -> bool {
-        match self {
-            Governing::Default => {
-                asking.secure
-                    && asking.privileged
-                    && (asking.cid == 1 || asking.cid == ANY_COMPARTMENT)
-            }
-            Governing::Base(terms) => terms.grants(asking),
-            Governing::Subregion(terms) => terms.grants(asking),
-        }
+    /// The rule if it grants, else why not.
+    pub fn judge(&self, asking: Asking) -> Result<Rule, Reason> {
+        let (rule, tests) = match self {
+            Governing::Default => (Rule::Default, default_tests(asking)),
+            Governing::Base(terms) => (Rule::Base, terms.tests(asking)),
+            Governing::Subregion(terms) => (Rule::Subregion, terms.tests(asking)),
+        };
+        tests.outcome().map(|()| rule)
     }
 
     /// All 64 kinds of asking; bit CID + 8*(write + 2*privileged + 4*secure).
@@ -168,7 +195,7 @@ impl Governing {
                 privileged: bit(kind, 4),
                 secure: bit(kind, 5),
             };
-            rights | u64::from(self.grants(asking)) << kind
+            rights | u64::from(self.judge(asking).is_ok()) << kind
         })
     }
 }

@@ -64,7 +64,7 @@ fn msec_or_sec(device: &mut Device, event: &Event) -> Answer {
 fn msec_recorded(device: &mut Device, event: &Event) -> Answer {
     let first = device.guards.clone().map(|guard| guard.iasr & IAEF == 0);
     let answer = device.apply(event);
-    if let (Event::Master(asked), Answer::Refused) = (event, answer) {
+    if let (Event::Master(asked), Answer::Denied(_)) = (event, answer) {
         let stored = u32::from(msec(device, asked.master)) * SECURE;
         for (guard, first) in device.guards.iter_mut().zip(first) {
             if first && guard.iasr & IAEF != 0 {

@@ -189,7 +189,7 @@ fn judged_at_end(device: &mut Device, event: &Event) -> Answer {
 fn next_flag(device: &mut Device, event: &Event) -> Answer {
     let before = device.iac.isr[4];
     let answer = device.apply(event);
-    if let (Event::Memory(access), Answer::Refused) = (event, answer) {
+    if let (Event::Memory(access), Answer::Denied(_)) = (event, answer) {
         device.iac.isr[4] = before | (1 << (access.guard + 11)) & IISR[4];
     }
     answer

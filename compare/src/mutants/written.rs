@@ -19,7 +19,7 @@ pub fn iac_written(event: &Event, answer: Answer) -> Option<&RegisterAccess> {
 /// The word and the bit of the flag, present or not, that a refusal raises.
 pub fn raised_by(event: &Event, answer: Answer) -> Option<(usize, u32)> {
     let index = match event {
-        _ if answer != Answer::Refused => return None,
+        _ if !answer.rights_fail() => return None,
         Event::Reset => return None,
         Event::Peripheral(access) => access.peripheral,
         Event::Memory(access) => 138 + access.guard,
