@@ -96,6 +96,12 @@ fn every_mutant_is_found() {
 }
 
 #[test]
+fn the_readme_counts_the_mutants() {
+    let told = format!("| {} wrong models", all().len());
+    assert!(include_str!("../README.md").contains(&told), "{told}");
+}
+
+#[test]
 fn a_mutant_that_is_right_is_not_found() {
     let wrong = rules_of("iaesr-overwritten");
     let outcome = mutants(1, &mut Modelled::new(wrong), None);

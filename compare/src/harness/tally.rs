@@ -6,14 +6,18 @@ use std::fmt::Write;
 
 const NUMBERS: usize = 9;
 const VALUES: usize = 3;
+const REASONS: [&str; 4] = ["none", "security", "privilege", "compartment"];
 
-/// A kind of call: the numbers it can get, and the values of 0 told apart.
+/// A kind of call: the numbers it can get, the values of 0 told apart, and the
+/// reasons that 1 can have.
 struct Kind {
     name: &'static str,
     numbers: &'static [usize],
     values: &'static [&'static str],
+    reasons: &'static [usize],
 }
 
+/// A kind of call that is refused without a reason.
 const fn kind(
     name: &'static str,
     numbers: &'static [usize],
@@ -23,10 +27,18 @@ const fn kind(
         name,
         numbers,
         values,
+        reasons: &[0],
     }
 }
 
-const RULES: &[&str] = &["by default", "by base", "by subregion"];
+const fn memory_kind(name: &'static str, numbers: &'static [usize]) -> Kind {
+    Kind {
+        name,
+        numbers,
+        values: &["by default", "by base", "by subregion"],
+        reasons: &[1, 2, 3],
+    }
+}
 
 const KINDS: [Kind; 18] = [
     kind("reset", &[0, 8], &[]),
@@ -38,22 +50,27 @@ const KINDS: [Kind; 18] = [
     kind("risaf write", &[0, 1, 2, 3, 4, 5, 8], &[]),
     kind("no block", &[4, 8], &[]),
     kind("peripheral", &[0, 1, 4, 7, 8], &[]),
-    kind("memory", &[0, 1, 4, 5, 6, 8], RULES),
-    kind("master", &[0, 1, 4, 5, 6, 8], RULES),
+    memory_kind("memory", &[0, 1, 4, 5, 6, 8]),
+    memory_kind("master", &[0, 1, 4, 5, 6, 8]),
     kind("line", &[0, 8], &["down", "up"]),
     kind("map", &[0, 4, 8], &[]),
     kind("lookup", &[0], &["row", "no row"]),
     kind("batch", &[0, 8], &[]),
-    kind("in a batch", &[0, 1, 4, 5, 6], RULES),
+    memory_kind("in a batch", &[0, 1, 4, 5, 6]),
     kind("diff", &[0, 4, 8], &[]),
-    kind(SCRIPT_LINE, &[0, 1, 2, 3, 4, 5, 6, 7], &[]),
+    Kind {
+        name: "script line",
+        numbers: &[0, 1, 2, 3, 4, 5, 6, 7],
+        values: &[],
+        reasons: &[0, 1, 2, 3],
+    },
 ];
-const SCRIPT_LINE: &str = "script line";
 
 #[derive(Default)]
 pub struct Tally {
     numbers: [[u64; NUMBERS]; KINDS.len()],
     values: [[u64; VALUES]; KINDS.len()],
+    reasons: [[u64; REASONS.len()]; KINDS.len()],
 }
 
 fn register_kind(access: &RegisterAccess) -> usize {
@@ -100,11 +117,13 @@ impl Tally {
         }
     }
 
-    /// Counts the numbers of all answers that a script printed.
+    /// Counts the numbers and reasons of all answers that a script printed.
     pub fn count_script(&mut self, output: &[u8]) {
         for line in output.split(|&byte| byte == b'\n') {
-            if let Some([digit @ b'0'..=b'8', ..]) = line.strip_prefix(b"ans\t") {
-                self.add(KINDS.len() - 1, u64::from(digit - b'0') << 32);
+            // A reason is the last digit of its word.
+            if let Some([number @ b'0'..=b'8', .., last]) = line.strip_prefix(b"ans\t") {
+                let reason = u64::from(last.wrapping_sub(b'0'));
+                self.add(KINDS.len() - 1, u64::from(number - b'0') << 32 | reason);
             }
         }
     }
@@ -117,25 +136,31 @@ impl Tally {
         if number == 0 && value < VALUES {
             self.values[kind][value] += 1;
         }
+        if number == 1 && value < REASONS.len() {
+            self.reasons[kind][value] += 1;
+        }
     }
 
     /// How many pairs of kind and answer there are, or those that are amiss.
     pub fn verdict(&self) -> Result<usize, String> {
         let (mut met, mut amiss) = (0, String::new());
-        for (kind, (numbers, values)) in KINDS.iter().zip(self.numbers.iter().zip(&self.values)) {
-            for (number, &count) in numbers.iter().enumerate() {
-                let possible = kind.numbers.contains(&number);
+        for (at, kind) in KINDS.iter().enumerate() {
+            let mut check = |what: String, possible: bool, count: u64| {
                 if possible != (count > 0) {
                     let how = if possible { "never" } else { "wrongly" };
-                    writeln!(amiss, "{} got {number} {how}", kind.name).unwrap();
+                    writeln!(amiss, "{} got {what} {how}", kind.name).unwrap();
                 }
                 met += usize::from(possible);
+            };
+            for (number, &count) in self.numbers[at].iter().enumerate() {
+                check(number.to_string(), kind.numbers.contains(&number), count);
             }
-            for (value, &count) in kind.values.iter().zip(values) {
-                if count == 0 {
-                    writeln!(amiss, "{} never got 0 {value}", kind.name).unwrap();
-                }
-                met += 1;
+            for (value, &count) in kind.values.iter().zip(&self.values[at]) {
+                check(format!("0 {value}"), true, count);
+            }
+            for (reason, &count) in self.reasons[at].iter().enumerate() {
+                let possible = kind.numbers.contains(&1) && kind.reasons.contains(&reason);
+                check(format!("1 for {}", REASONS[reason]), possible, count);
             }
         }
         if amiss.is_empty() {
@@ -163,15 +188,23 @@ impl Tally {
             }
             table.push('\n');
         }
-        for (kind, values) in KINDS.iter().zip(&self.values) {
-            if !kind.values.is_empty() {
-                let told = kind.values.iter().zip(values);
-                let told: Vec<String> = told
-                    .map(|(name, count)| format!("{count} {name}"))
-                    .collect();
-                writeln!(table, "{} 0: {}", kind.name, told.join(", ")).unwrap();
+        for (at, kind) in KINDS.iter().enumerate() {
+            put_told(&mut table, kind, 0, kind.values, &self.values[at]);
+            if kind.reasons.len() > 1 {
+                put_told(&mut table, kind, 1, &REASONS, &self.reasons[at]);
             }
         }
         table
+    }
+}
+
+/// A line with the counts of what is told apart under a number, if anything is.
+fn put_told(table: &mut String, kind: &Kind, number: usize, names: &[&str], counts: &[u64]) {
+    let told = names.iter().zip(counts);
+    let told: Vec<String> = told
+        .map(|(name, count)| format!("{count} {name}"))
+        .collect();
+    if !told.is_empty() {
+        writeln!(table, "{} {number}: {}", kind.name, told.join(", ")).unwrap();
     }
 }

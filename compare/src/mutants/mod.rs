@@ -11,6 +11,7 @@ mod lines;
 mod locks;
 mod masters;
 mod memory;
+mod reasons;
 mod registers;
 mod written;
 
@@ -51,6 +52,7 @@ const fn mutant(
 pub fn all() -> Vec<Mutant> {
     let lists = [
         memory::MUTANTS,
+        reasons::MUTANTS,
         masters::MUTANTS,
         registers::MUTANTS,
         locks::MUTANTS,
