@@ -19,15 +19,22 @@ static inline bool none_enabled(const uint32_t *regions) {
     return !(some & ENABLE);
 }
 
-static inline bool default_grants(uint32_t cid, bool secure, bool privileged) {
-    return secure && privileged && (cid == 1 || cid == DEBUGGER);
+/* A verdict is the rule, 0 to 2, where it grants; else less than 0, and the test that failed first, over all that govern. */
+enum { BY_SECURITY = -1, BY_PRIVILEGE = -2, BY_COMPARTMENT = -3 };
+
+static inline int default_verdict(uint32_t cid, bool secure, bool privileged) {
+    if (!secure)
+        return BY_SECURITY;
+    if (!privileged)
+        return BY_PRIVILEGE;
+    return cid == 1 || cid == DEBUGGER ? 0 : BY_COMPARTMENT;
 }
 
 static inline bool covers(const uint32_t *region, uint32_t offset) {
     return region[0] & ENABLE && region[START] <= offset && offset <= region[END];
 }
 
-/* The rule, 1 or 2, where it grants; else -1. So many regions are left from this one on, which covers. */
+/* The verdict of rule 1 or 2. So many regions are left from this one on, which covers. */
 static inline int decide(const uint32_t *region, uint32_t left, uint32_t offset, uint32_t kind) {
     uint32_t cid = kind & 7, secure = kind & SECURE, privileged = kind & PRIVILEGED, write = kind >> 7;
     uint32_t any = 0, all = ~0u, enables = ~0u;  /* of the base regions that cover: the bits of CFGR, those of CIDCFGR */
@@ -58,16 +65,16 @@ static inline int decide(const uint32_t *region, uint32_t left, uint32_t offset,
     } while (region += REGION_WORDS, --left);
     if (counted) {
         if (!secure != !(secs & SEC))
-            return -1;
+            return BY_SECURITY;
         if (!privileged && privs)
-            return -1;
-        return opened ? 2 : -1;
+            return BY_PRIVILEGE;
+        return opened ? 2 : BY_COMPARTMENT;
     }
     if (secure ? !(all & SEC) : any & SEC)
-        return -1;
+        return BY_SECURITY;
     if (!privileged && any >> (16 + cid) & 1)
-        return -1;
-    return cid == DEBUGGER || enables >> (cid + 16 * write) & 1 ? 1 : -1;
+        return BY_PRIVILEGE;
+    return cid == DEBUGGER || enables >> (cid + 16 * write) & 1 ? 1 : BY_COMPARTMENT;
 }
 
 #endif

@@ -2,8 +2,8 @@
 #include "decide.h"
 #include "flags.h"
 
-/* The first fault is kept until IAEF is cleared. */
-APART uint64_t refused(uint32_t *s, const guard_facts *g, uint32_t offset, uint32_t kind) {
+/* The first fault is kept until IAEF is cleared. The value is the reason. */
+APART uint64_t refused(uint32_t *s, const guard_facts *g, uint32_t offset, uint32_t kind, int verdict) {
     uint32_t *w = s + g->first;
     if (!(w[IASR] & IAEF)) {
         w[IASR] |= IAEF;
@@ -11,12 +11,12 @@ APART uint64_t refused(uint32_t *s, const guard_facts *g, uint32_t offset, uint3
         w[IADDR] = offset;
     }
     raise_flag(s, g->flag);
-    return answer(REFUSED);
+    return answer(REFUSED) - verdict;
 }
 
 APART uint64_t judged(uint32_t *s, const guard_facts *g, const uint32_t *region, uint32_t left, uint32_t offset, uint32_t kind) {
-    int rule = decide(region, left, offset, kind);
-    return rule < 0 ? refused(s, g, offset, kind) : (uint64_t)rule;
+    int verdict = decide(region, left, offset, kind);
+    return verdict < 0 ? refused(s, g, offset, kind, verdict) : (uint64_t)verdict;
 }
 
 /* What most accesses need is here; the rest is in functions of their own, so that no registers are saved for it. */
@@ -35,9 +35,8 @@ static inline uint64_t access_memory(uint32_t *s, uint32_t guard, uint32_t offse
             if (covers(region, offset))
                 return judged(s, g, region, left, offset, kind_of(cid, write, secure, privileged));
     }
-    if (default_grants(cid, secure, privileged))
-        return 0;
-    return refused(s, g, offset, kind_of(cid, write, secure, privileged));
+    int verdict = default_verdict(cid, secure, privileged);
+    return verdict < 0 ? refused(s, g, offset, kind_of(cid, write, secure, privileged), verdict) : 0;
 }
 
 uint64_t yard_memory(uint32_t *state, size_t words, uint32_t guard, uint32_t offset, uint32_t width, bool write, uint32_t cid,
