@@ -13,11 +13,11 @@ use Rattle.rifsc.specs.declared.port.Accessed.{Accessed}
 use Rattle.rifsc.specs.declared.port.Seen.{Seen}
 use Rattle.rifsc.specs.declared.registers.Register.{Register}
 use Rattle.rifsc.specs.declared.registers.Row.{Row}
+use Rattle.iac.specs.Held.{held}
 use Rattle.iac.specs.Port as iac
 use Rattle.iac.specs.Contents as iac-contents
 use Rattle.iac.specs.Registers as iac-registers
 use Rattle.iac.specs.declared.port.Accessed.{Accessed as IacAccessed}
-use Rattle.iac.specs.declared.port.Seen.{Seen as IacSeen}
 use Rattle.iac.specs.declared.registers.Register.{Register as IacRegister}
 use Rattle.iac.specs.declared.registers.Row.{Row as IacRow}
 use Rattle.device.specs.State.{State, flagged, withRifsc, withIac}
@@ -56,24 +56,24 @@ module _ (s : State) (q : Request) {reg : Register} {row : Row} {v : Seen} {r : 
 
 -- ---- the IAC, by what the code's calls give
 
-module _ (s : State) (q : Request) {reg : IacRegister} {row : IacRow} {v : IacSeen} {r : IacAccessed} (eg : reg ≡ iac-registers.registerAt (q .offset))
-    (er : row ≡ iac-registers.rowOf reg) (ev : v ≡ iac-contents.seen (s .iac) reg) (ea : r ≡ iac.accessed reg row v q) where
+module _ (s : State) (q : Request) {reg : IacRegister} {row : IacRow} {v : ℕ} {r : IacAccessed} (eg : reg ≡ iac-registers.registerAt (q .offset))
+    (er : row ≡ iac-registers.rowOf reg) (ev : v ≡ iac-contents.stored (s .iac) reg) (ea : r ≡ iac.accessed reg row (record { word = v }) q) where
   flags-is : registerStep Iac q s
       ≡ settled (r .answer) iacFlag s
       (withIac s
-      (left (r .answer) (s .iac) (cond (q .write) (iac-contents.withStored (s .iac) reg (iac.rewritten reg row v (q .value))) (s .iac)) (s .iac)))
-  unfolding registerStep iac.stepped iac.written iac.accessed iac-contents.seen
+      (left (r .answer) (s .iac) (cond (q .write) (held (s .iac) (iac-contents.withWord (s .iac) reg (iac.wordWritten reg v (q .value)))) (s .iac)) (s .iac)))
+  unfolding registerStep iac.stepped iac.written iac.accessed
   flags-is = rw (ea, ev, er, eg)
 
   pub flags-answer : r .answer ≡ registerStep Iac q s .answer
   flags-answer = sym (ap (λ (o : Outcome). o .answer) flags-is)
 
   pub flags-written : {t : State} {x : ℕ} → r .answer ≡ Done x → q .write ≡ true
-      → t ≡ withIac s (iac-contents.withStored (s .iac) reg (r .next)) → t ≡ registerStep Iac q s .next
+      → t ≡ withIac s (held (s .iac) (iac-contents.withWord (s .iac) reg (r .next .word))) → t ≡ registerStep Iac q s .next
   unfolding iac.accessed
   flags-written d w e =
-      let n : r .next ≡ iac.rewritten reg row v (q .value) = ap (λ (o : IacAccessed). o .next) ea ∙ rw (sym (ap (λ (o : IacAccessed). o .answer) ea) ∙ d, w) in
-      rw flags-is (rw (d, w) (e ∙ ap (λ (k : IacSeen). withIac s (iac-contents.withStored (s .iac) reg k)) n))
+      let n : r .next .word ≡ iac.wordWritten reg v (q .value) = ap (λ (o : IacAccessed). o .next .word) ea ∙ rw (sym (ap (λ (o : IacAccessed). o .answer) ea) ∙ d, w) in
+      rw flags-is (rw (d, w) (e ∙ ap (λ (k : ℕ). withIac s (held (s .iac) (iac-contents.withWord (s .iac) reg k))) n))
 
   pub flags-read : {x : ℕ} → r .answer ≡ Done x → q .write ≡ false → s ≡ registerStep Iac q s .next
   flags-read d w = rw flags-is (rw (d, w) refl)

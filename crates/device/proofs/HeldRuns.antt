@@ -1,107 +1,86 @@
--- The line and the count that are kept are true after any events from reset: change request Q-4.
+-- The line and the count that are kept, over any event and any events: change request Q-4, in the words of iac/specs/Kept.
 use mathlib.Core.List.{List, [], _∷_}
 use mathlib.Core.Path.{_≡_, refl}
-use Prim.Native.Nat.{ℕ, _+_, _%_}
-use native.Mathlib.Omega.{arith}
-use lib.Dec.{lit<}
-use lib.ListN.{length}
-use Rattle.access.specs.declared.flag.Flag.{Flag}
+use Prim.Native.Nat.{ℕ}
 use Rattle.access.specs.declared.request.Request.{Request}
-use Rattle.iac.specs.Held.{heldLine, heldCount, fresh}
+use Rattle.iac.specs.Contents as iac
+use Rattle.iac.specs.Held.{held}
+use Rattle.iac.specs.Kept.{True, Moves}
 use Rattle.iac.specs.Registers as iac-registers
 use Rattle.iac.specs.declared.contents.Iac.{Iac as IacWords}
-use Rattle.iac.proofs.HeldTrue.{Sized, True, Keeps, keeps-refl, raise-keeps, written-keeps, reset-true}
-use Rattle.rifsc.specs.Masters.{attributesOf, carried}
-use Rattle.risaf.specs.Guards.{shapeOf}
-use Rattle.device.specs.Layout.{headSizes, ierPart, isrPart, stateOf, stateWords}
+use Rattle.iac.proofs.HeldTrue.{held-true, held-moves, moves-refl, raise-by, written-by, reset-true}
 use Rattle.device.specs.Locks.{NotReset}
 use Rattle.device.specs.Run.{run}
-use Rattle.device.specs.State.{State, withGuard, flagged, resetState}
+use Rattle.device.specs.State.{State, withGuard, resetState}
 use Rattle.device.specs.Step.{step}
 use Rattle.device.specs.declared.event.Block.{Block}
 use Rattle.device.specs.declared.event.Block.the-variants.{Rifsc, Iac, Risaf}
 use Rattle.device.specs.declared.event.Event.{Event}
 use Rattle.device.specs.declared.event.Event.the-variants.{Reset, Register, Peripheral, Memory, Master}
-use Rattle.device.proofs.Effects.{registerEffect, effect, registerRefused, memoryRefused, refused, step-by}
-use Rattle.device.proofs.Parts.{part-length}
+use Rattle.device.proofs.Effects.{registerEffect, effect, registerRefused, refused, step-by}
 
--- ---- any event but reset
+-- ---- an event leaves the IAC as it was, or as it is held, or as reset makes it: P of all that it may leave is P of what it leaves
 
-module _ (s : State) (z : Sized (s .iac)) where
-  -- t is what an event leaves of s
-  abbrev Kept : State → Type 0
-  Kept t = Keeps (s .iac) (t .iac)
+module _ (P : IacWords → Type 0) (s : State) (same : P (s .iac)) (kept : (t : IacWords) → P (held (s .iac) t)) where
+  abbrev Of : State → Type 0
+  Of t = P (t .iac)
 
-  register-effect : (b : Block) (q : Request) → Kept (registerEffect b q s)
+  register-effect : (b : Block) (q : Request) → Of (registerEffect b q s)
   unfolding registerEffect withGuard
-  register-effect Rifsc q = keeps-refl (s .iac) z
-  register-effect Iac q = written-keeps q (s .iac) (iac-registers.registerAt (q .offset)) z
-  register-effect (Risaf n) q = keeps-refl (s .iac) z
+  register-effect Rifsc q = same
+  register-effect Iac q = written-by P q (s .iac) (iac-registers.registerAt (q .offset)) same kept
+  register-effect (Risaf n) q = same
 
-  event-effect : (e : Event) → NotReset e → Kept (effect e s)
+  event-effect : (e : Event) → (e ≡ Reset → Of resetState) → Of (effect e s)
   unfolding effect
-  event-effect Reset other = absurd (other refl)
-  event-effect (Register a) other = register-effect (a .block) (a .request)
-  event-effect (Peripheral a) other = keeps-refl (s .iac) z
-  event-effect (Memory a) other = keeps-refl (s .iac) z
-  event-effect (Master a) other = keeps-refl (s .iac) z
+  event-effect Reset reset = reset refl
+  event-effect (Register a) reset = register-effect (a .block) (a .request)
+  event-effect (Peripheral a) reset = same
+  event-effect (Memory a) reset = same
+  event-effect (Master a) reset = same
 
-  register-refused : (b : Block) → Kept (registerRefused b s)
+  register-refused : (b : Block) → Of (registerRefused b s)
   unfolding registerRefused withGuard
-  register-refused Rifsc = raise-keeps _ (s .iac) z
-  register-refused Iac = raise-keeps _ (s .iac) z
-  register-refused (Risaf n) = raise-keeps _ (s .iac) z
+  register-refused Rifsc = raise-by P _ (s .iac) same kept
+  register-refused Iac = raise-by P _ (s .iac) same kept
+  register-refused (Risaf n) = raise-by P _ (s .iac) same kept
 
-  event-refused : (e : Event) → Kept (refused e s)
+  event-refused : (e : Event) → Of (refused e s)
   unfolding refused withGuard
-  event-refused Reset = keeps-refl (s .iac) z
+  event-refused Reset = same
   event-refused (Register a) = register-refused (a .block)
-  event-refused (Peripheral a) = raise-keeps _ (s .iac) z
-  event-refused (Memory a) = raise-keeps _ (s .iac) z
-  event-refused (Master a) = raise-keeps _ (s .iac) z
+  event-refused (Peripheral a) = raise-by P _ (s .iac) same kept
+  event-refused (Memory a) = raise-by P _ (s .iac) same kept
+  event-refused (Master a) = raise-by P _ (s .iac) same kept
 
-  event-keeps : (e : Event) → NotReset e → Kept (step e s .next)
-  event-keeps e other = step-by Kept e s (keeps-refl (s .iac) z) (λ v d. event-effect e other) (λ v r. event-refused e)
+  event-by : (e : Event) → (e ≡ Reset → Of resetState) → Of (step e s .next)
+  event-by e reset = step-by Of e s same (λ v d. event-effect e reset) (λ v r. event-refused e)
 
--- a state in memory has all the words of IER and ISR
-pub state-sized : (m : List ℕ) → length m ≡ stateWords → Sized (stateOf m .iac)
-unfolding stateOf
-state-sized m h = (part-length headSizes m isrPart (lit< tt) (omega arith), part-length headSizes m ierPart (lit< tt) (omega arith))
+-- ---- one event
 
--- what an event but reset adds to the count is the change in the fresh count, modulo 256, whatever the two hold
-pub event-adds : (e : Event) (s : State) → Sized (s .iac) → NotReset e
-    → (heldCount (step e s .next .iac) + fresh (s .iac)) % 256 ≡ (heldCount (s .iac) + fresh (step e s .next .iac)) % 256
-event-adds e s z other = event-keeps s z e other .adds
+-- any but reset, whatever the two hold
+pub event-moves : (e : Event) (s : State) → NotReset e → Moves (s .iac) (step e s .next .iac)
+event-moves e s other = event-by (Moves (s .iac)) s (moves-refl (s .iac)) (held-moves (s .iac)) e (λ r. absurd (other r))
+
+-- "reset sets both to 0"
+pub reset-zero : (s : State) → (step Reset s .next .iac .line ≡ 0) × (step Reset s .next .iac .count ≡ 0)
+unfolding step resetState iac.reset
+reset-zero s = (refl, refl)
+
+-- both stay true
+pub step-true : (e : Event) (s : State) → True (s .iac) → True (step e s .next .iac)
+unfolding resetState
+step-true e s y = event-by True s y (λ t. held-true (s .iac) t y) e (λ r. reset-true)
 
 -- ---- any events
 
-abbrev pub Right : State → Type 0
-Right s = Sized (s .iac) × True (s .iac)
-
-pub reset-right : Right resetState
-unfolding resetState
-reset-right = reset-true
-
-right-by : (s t : State) → Right s → Keeps (s .iac) (t .iac) → Right t
-right-by s t h k = (k .sized, k .keeps (h .1))
-
-effect-right : (e : Event) (s : State) → Right s → Right (effect e s)
-unfolding effect
-effect-right Reset s h = reset-right
-effect-right (Register a) s h = right-by s (registerEffect (a .block) (a .request) s) h (register-effect s (h .0) (a .block) (a .request))
-effect-right (Peripheral a) s h = h
-effect-right (Memory a) s h = h
-effect-right (Master a) s h = h
-
-pub step-right : (e : Event) (s : State) → Right s → Right (step e s .next)
-step-right e s h = step-by Right e s h (λ v d. effect-right e s h) (λ v r. right-by s (refused e s) h (event-refused s (h .0) e))
-
 -- from any state where both are true
-pub run-right : (es : List Event) (s : State) → Right s → Right (run es s)
+pub run-true : (es : List Event) (s : State) → True (s .iac) → True (run es s .iac)
 unfolding run
-run-right [] s h = h
-run-right (e ∷ es) s h = run-right es (step e s .next) (step-right e s h)
+run-true [] s y = y
+run-true (e ∷ es) s y = run-true es (step e s .next) (step-true e s y)
 
 -- and so from reset
-pub held-true : (es : List Event) → Right (run es resetState)
-held-true es = run-right es resetState reset-right
+pub from-reset-true : (es : List Event) → True (run es resetState .iac)
+unfolding resetState
+from-reset-true es = run-true es resetState reset-true

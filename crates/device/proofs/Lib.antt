@@ -4,6 +4,7 @@ pub mod Effects
 pub mod GuardLayout
 pub mod GuardSteps
 pub mod HeldRuns
+pub mod HeldSteps
 pub mod LockWrites
 pub mod Locks
 pub mod MasterAccesses

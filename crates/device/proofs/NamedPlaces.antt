@@ -25,7 +25,7 @@ use Rattle.iac.specs.Registers as iac
 use Rattle.iac.specs.Registers.{iisr, iisrs}
 use Rattle.iac.specs.declared.registers.Register.{Register as IacRegister}
 use Rattle.iac.specs.declared.registers.Register.the-variants as in-iac
-use Rattle.iac.proofs.NamedBits as iac-named
+use Rattle.iac.proofs.NamedWords as iac-named
 use Rattle.risaf.specs.Contents.{headWords, iaesrAt, guardSize, guardWords, guardFrom}
 use Rattle.risaf.specs.Guards.{GuardRow, guards, shapeOf}
 use Rattle.risaf.specs.Rows.{ofHead, ofBase, ofSub, rowOf}

@@ -5,7 +5,7 @@ use Prim.Native.Nat.{ℕ}
 use lib.ListN.{length, getD}
 use Rattle.words.proofs.Alike.{Each, none, more, each-get, each-set, each-take, each-drop, each-append, each-map, each-by}
 use Rattle.rifsc.proofs.NamedBits as rifsc
-use Rattle.iac.proofs.NamedBits as iac
+use Rattle.iac.proofs.NamedWords as iac
 use Rattle.risaf.specs.Contents.{guardWords, guardFrom}
 use Rattle.risaf.specs.Guards.{shapeOf}
 use Rattle.risaf.specs.declared.contents.Guard.{Guard}

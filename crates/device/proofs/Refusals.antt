@@ -1,5 +1,5 @@
 -- What an event leaves, by its answer: document 01, "Numbers given back", the column "left".
-use mathlib.Core.Bool.{Bool, true, false, true≢false}
+use mathlib.Core.Bool.{Bool, true, false, cond, true≢false}
 use mathlib.Core.List.{List, map}
 use mathlib.Core.Path.{_≡_, refl, ap, _∙_}
 use Prim.Native.Nat.{ℕ, _≤_}
@@ -14,8 +14,9 @@ use Rattle.access.specs.declared.kind.Kind.{Kind}
 use Rattle.access.specs.declared.request.Request.{Request}
 use Rattle.rifsc.specs.Masters.{attributesOf, carried}
 use Rattle.rifsc.specs.Port as rifsc
-use Rattle.iac.specs.Contents.{withWord as withIacWord, withStored}
-use Rattle.iac.specs.Flags.{raise}
+use Rattle.iac.specs.Contents.{withWord as withIacWord}
+use Rattle.iac.specs.Flags.{isFlag, flagSet, raise}
+use Rattle.iac.specs.Held.{held}
 use Rattle.iac.specs.Port as iac
 use Rattle.iac.specs.declared.contents.Iac.{Iac as IacWords}
 use Rattle.risaf.specs.Contents.{withWord}
@@ -43,8 +44,12 @@ refusal-leaves e s h =
 -- ---- 1 changes flags and fault registers alone
 
 raise-ier : (i : Flag) (s : IacWords) → raise i s .ier ≡ s .ier
-unfolding raise withStored withIacWord
-raise-ier i s = refl
+unfolding raise held flagSet withIacWord
+raise-ier i s = go (isFlag i)
+  where
+    go : (b : Bool) → cond b (held s (flagSet i s)) s .ier ≡ s .ier
+    go true = refl
+    go false = refl
 
 flag-kept : (i : Flag) (s : State) → settings (flagged i s) ≡ settings s
 unfolding settings

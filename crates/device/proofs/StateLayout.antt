@@ -11,6 +11,7 @@ use Rattle.risaf.specs.Guards.{guardCount}
 use Rattle.rifsc.specs.declared.contents.Rifsc.{Rifsc}
 use Rattle.iac.specs.declared.contents.Iac.{Iac}
 use Rattle.iac.specs.Contents.{withHeld}
+use Rattle.iac.specs.declared.held.Held.{Held}
 use Rattle.device.specs.State.{withRifsc, withIac}
 use Rattle.device.specs.Layout.{placeIn, total, partsOf, joined, headSizes, guardSizes, guardsAt, stateWords, crPart, seccfgrPart, privcfgrPart, rcfglockrPart, rimccrPart, attrPart, ierPart, isrPart, linePart, countPart, only, headOf, layout, stateFrom, stateOf}
 use Rattle.device.proofs.Parts.{joined-parts, part-is, part-length, part-paste, paste-past, set-paste, total-alike, place-most}
@@ -140,10 +141,10 @@ module _ {m m′ : List ℕ} where
       by gs = refl
 
   -- the line and the count alone
-  pub held-stored : (line count : ℕ) → Heads m (set (set (partsOf headSizes m) linePart (line ∷ [])) countPart (count ∷ [])) m′
-      → stateOf m′ ≡ withIac (stateOf m) (withHeld (stateOf m .iac) line count)
+  pub held-stored : (h : Held) → Heads m (set (set (partsOf headSizes m) linePart (h .line ∷ [])) countPart (h .count ∷ [])) m′
+      → stateOf m′ ≡ withIac (stateOf m) (withHeld (stateOf m .iac) h)
   unfolding stateOf partsOf
-  held-stored line count s = heads-state s
+  held-stored h s = heads-state s
 
   pub rifsc-stored : (r : Rifsc)
       → Heads m

@@ -1,13 +1,14 @@
 use crate::controller::load_seen;
 use crate::controller::store_register;
-use crate::flags::load_flags;
+use crate::flags::load_word;
 use crate::flags::raise;
-use crate::flags::store_flags;
+use crate::flags::rewrite;
 use crate::guards::load_port;
 use crate::guards::store_word;
 use access::Answer;
 use access::Flag;
 use access::Request;
+use iac::Seen;
 use risaf::GuardNumber;
 use risaf::IASR;
 ghost use mathlib.Core.Path.{_≡_};
@@ -51,13 +52,17 @@ pub(crate) fn access_iac(state: &mut [u32], q: Request) -> Answer
     ensures next { λ _. ⌜ stateOf (now (state .exit)) ≡ registerStep Iac q (stateOf (now (state .entry))) .next ⌝ }
 {
     let reg = iac::register_at(q.offset);
-    let accessed = load_flags(state, reg).access(reg, reg.row(), q);
+    let row = reg.row();
+    let seen = Seen {
+        word: load_word(state, reg),
+    };
+    let accessed = seen.access(reg, row, q);
     let answer = accessed.answer;
     let next = accessed.next;
     match answer {
         Answer::Done(_) => {
             if q.write {
-                store_flags(state, reg, next);
+                rewrite(state, reg, row.named, seen.word, next.word);
             }
         }
         Answer::Refused(_) => raise(state, IAC_FLAG),

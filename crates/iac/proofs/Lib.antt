@@ -1,5 +1,9 @@
+pub mod HeldAt
 pub mod HeldExamples
 pub mod HeldLaws
 pub mod HeldTrue
 pub mod NamedBits
+pub mod NamedHeld
+pub mod NamedWords
 pub mod PortLaws
+pub mod Sums

@@ -10,15 +10,9 @@ ghost use Prim.Native.Nat.{_%_};
 ghost use lib.Dec.{eqb};
 ghost use Rattle.iac.specs.Port.{accessed, answerOf, wordWritten};
 
-// What an access to a register, or a flag raised, needs of the IAC, by value.
+// What an access to a register needs of the IAC, by value: the register's own word, for ICR the word of ISR.
 pub struct Seen {
-    // The register's own word, for ICR and a flag the word of ISR.
     pub word: u32,
-    // The other word of its index: of ISR for an enable, of IER for a flag.
-    pub other: u32,
-    // The words that keep the line and the count.
-    pub line: u32,
-    pub count: u32,
 }
 
 // What an access leaves, and the answer.
@@ -68,18 +62,15 @@ fn answer(row: Row, old: u32, q: Request) -> Answer
 }
 
 impl Seen {
-    // An access to a register with this row. A write that is done leaves other words.
-    pub fn access(self, reg: Register, row: Row, q: Request) -> Accessed
+    // An access to a register with this row. A write that is done leaves another word.
+    pub fn access(mut self, reg: Register, row: Row, q: Request) -> Accessed
         ensures { λ r. ⌜ r ≡ accessed reg row self q ⌝ }
     {
         let answer = answer(row, self.word, q);
         if let Answer::Done(_) = answer {
             if q.write {
                 let word = word_written(reg, self.word, q.value);
-                return Accessed {
-                    next: self.hold(row.named, word),
-                    answer,
-                };
+                self.word = word;
             }
         }
         Accessed { next: self, answer }

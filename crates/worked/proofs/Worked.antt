@@ -6,7 +6,7 @@ use Prim.Native.Nat.{ℕ}
 use lib.Dec.{eqb}
 use borrow.Author.Tests.{eqb-true}
 use Rattle.access.specs.Answer.{numberOf, valueOf}
-use Rattle.words.specs.Bit.{masked, merged, united, withBit}
+use Rattle.words.specs.Bit.{one, masked, merged, united, withBit}
 use Rattle.access.specs.Checks.{answeredWith, reachedWith}
 use Rattle.rifsc.specs.Registers.{registerAt as rifsc-registerAt, ppsr, rowOf as rifsc-rowOf}
 use Rattle.rifsc.specs.Contents.{stored as rifsc-stored, withStored as rifsc-withStored, seen as rifsc-seen, reset as rifsc-reset}
@@ -14,10 +14,10 @@ use Rattle.rifsc.specs.Port.{readOf as rifsc-readOf, takes, wordWritten as rifs
 use Rattle.rifsc.specs.Masters.{isMaster, guardingOf, attributesOf, carried}
 use Rattle.rifsc.specs.Peripherals.{exists, filterOf, grants}
 use Rattle.iac.specs.Registers.{registerAt as iac-registerAt, iisr, rowOf as iac-rowOf}
-use Rattle.iac.specs.Contents.{stored as iac-stored, other as iac-other, seen as iac-seen, withWord as iac-withWord, withStored as iac-withStored, reset as iac-reset}
-use Rattle.iac.specs.Held.{freshOf, recounted, held}
-use Rattle.iac.specs.Port.{readOf as iac-readOf, checksOf as iac-checksOf, answerOf as iac-answerOf, written as iac-written, stepped as iac-stepped}
-use Rattle.iac.specs.Flags.{raise, raised}
+use Rattle.iac.specs.Contents.{stored as iac-stored, withWord as iac-withWord, reset as iac-reset}
+use Rattle.iac.specs.Held.{heldLine, heldCount, freshOf, freshAt, fresh, changesAt, changed, withCount, held}
+use Rattle.iac.specs.Port.{readOf as iac-readOf, wordWritten as iac-wordWritten, checksOf as iac-checksOf, answerOf as iac-answerOf, written as iac-written, stepped as iac-stepped}
+use Rattle.iac.specs.Flags.{flagSet, raise}
 use Rattle.risaf.specs.Guards.{shapeIn, shapeOf}
 use Rattle.risaf.specs.Registers.{regionAt, subRegister, regionRegister, registerAt}
 use Rattle.risaf.specs.Rows.{ofHead, ofBase, ofSub, rowOf}
@@ -34,7 +34,7 @@ use Rattle.map.proofs.Steady.{rows-swept}
 use Rattle.spans.specs.Map.{join}
 use Rattle.spans.specs.Rows.{Rows, flat}
 use Rattle.spans.specs.Sweep.{nextOf, sweepFrom, sweptMap, boundsOf}
-use Rattle.worked.specs.Example.{Line, gives, prints, Holds, AllHold}
+use Rattle.worked.specs.Example.{Line, gives, prints, keeps, handed, holding, Holds, AllHold}
 use Rattle.worked.specs.Examples.{worked}
 use Rattle.worked.specs.Readings.{readings}
 
@@ -66,6 +66,8 @@ passes [] s = true
 passes (gives e number value ∷ ls) s =
     eqb (numberOf (step e s .answer)) number && (eqb (valueOf (step e s .answer)) value && passes ls (step e s .next))
 passes (prints n rows ∷ ls) s = same (flat (swept s n)) rows && passes ls s
+passes (keeps line count ∷ ls) s = eqb (one (heldLine (s .iac))) line && (eqb (heldCount (s .iac)) count && passes ls s)
+passes (handed line count ∷ ls) s = passes ls (holding line count s)
 
 pass : List (List Line) → Bool
 pass [] = true
@@ -81,6 +83,11 @@ holds (gives e number value ∷ ls) s h =
 holds (prints n rows ∷ ls) s h =
     let p = both _ _ h in
     (ap flat (rows-swept s n) ∙ same-is _ _ (p .0), holds ls s (p .1))
+holds (keeps line count ∷ ls) s h =
+    let p = both _ _ h in
+    let q = both _ _ (p .1) in
+    (eqb-true _ _ (p .0), eqb-true _ _ (q .0), holds ls s (q .1))
+holds (handed line count ∷ ls) s h = holds ls (holding line count s) h
 
 hold : (xs : List (List Line)) → pass xs ≡ true → AllHold xs
 unfolding AllHold pass
@@ -90,7 +97,7 @@ hold (x ∷ xs) h = let p = both _ _ h in (holds x resetState (p .0), hold xs (p
 -- ---- the examples, and the wrong readings
 
 passed : (pass worked ≡ true) × (pass readings ≡ true)
-unfolding pass passes same swept worked readings flat sweptMap sweepFrom nextOf boundsOf join pairsOf rightsOf rightsWord masked merged united withBit answeredWith reachedWith rifsc-registerAt ppsr rifsc-rowOf rifsc-stored rifsc-withStored rifsc-seen rifsc-reset rifsc-readOf takes rifsc-wordWritten rifsc-checksOf rifsc-answerOf rifsc-written rifsc-stepped iac-registerAt iisr iac-rowOf iac-stored iac-other iac-seen iac-withWord iac-withStored freshOf recounted held iac-reset iac-readOf iac-checksOf iac-answerOf iac-written iac-stepped raise raised shapeIn shapeOf regionAt subRegister regionRegister registerAt ofHead ofBase ofSub rowOf withWord reset portIn readOf delegated allowedOf subcfgrWritten wordIn checksOf answerOf accessed stepped decided tests memoryChecks memoryAnswer recordedFault faulted memoryStepped guardOf withGuard resetState registerStep peripheralStep exists filterOf grants isMaster guardingOf attributesOf carried memoryStep step
+unfolding pass passes same swept worked readings flat sweptMap sweepFrom nextOf boundsOf join pairsOf rightsOf rightsWord masked merged united withBit answeredWith reachedWith rifsc-registerAt ppsr rifsc-rowOf rifsc-stored rifsc-withStored rifsc-seen rifsc-reset rifsc-readOf takes rifsc-wordWritten rifsc-checksOf rifsc-answerOf rifsc-written rifsc-stepped iac-registerAt iisr iac-rowOf iac-stored iac-withWord freshOf freshAt fresh changesAt changed withCount held iac-reset iac-readOf iac-checksOf iac-answerOf iac-wordWritten iac-written iac-stepped flagSet raise shapeIn shapeOf regionAt subRegister regionRegister registerAt ofHead ofBase ofSub rowOf withWord reset portIn readOf delegated allowedOf subcfgrWritten wordIn checksOf answerOf accessed stepped decided tests memoryChecks memoryAnswer recordedFault faulted memoryStepped guardOf withGuard resetState registerStep peripheralStep exists filterOf grants isMaster guardingOf attributesOf carried memoryStep step
 passed = (refl, refl)
 
 pub all-hold : AllHold worked

@@ -4,8 +4,11 @@ use mathlib.Core.List.{List, [], _∷_}
 use mathlib.Core.Path.{_≡_}
 use Prim.Native.Nat.{ℕ}
 use Rattle.access.specs.Answer.{numberOf, valueOf}
+use Rattle.words.specs.Bit.{one}
 use Rattle.spans.specs.Rows.{flat}
-use Rattle.device.specs.State.{State, resetState}
+use Rattle.iac.specs.Contents.{withHeld}
+use Rattle.iac.specs.Held.{heldLine, heldCount}
+use Rattle.device.specs.State.{State, withIac, resetState}
 use Rattle.device.specs.Step.{step}
 use Rattle.device.specs.declared.event.Block.{Block}
 use Rattle.device.specs.declared.event.Event.{Event}
@@ -60,6 +63,14 @@ pub data Line : Type 0 where
   gives : Event → ℕ → ℕ → Line
   -- the rows of the guard's map are these numbers
   prints : ℕ → List ℕ → Line
+  -- the line, 1 where it is up, and the count, as they are kept
+  keeps : ℕ → ℕ → Line
+  -- the state is handed in with these words for the line and the count
+  handed : ℕ → ℕ → Line
+
+-- the state with other words for the line and the count
+abbrev pub holding : ℕ → ℕ → State → State
+holding line count s = withIac s (withHeld (s .iac) (record { line = line; count = count }))
 
 -- the lines hold one after the other, from a state on
 unfoldable pub Holds : List Line → State → Type 0
@@ -67,6 +78,8 @@ Holds [] s = Unit {0}
 Holds (gives e number value ∷ ls) s =
     (numberOf (step e s .answer) ≡ number) × (valueOf (step e s .answer) ≡ value) × Holds ls (step e s .next)
 Holds (prints n rows ∷ ls) s = (flat (rowsOf s n) ≡ rows) × Holds ls s
+Holds (keeps line count ∷ ls) s = (one (heldLine (s .iac)) ≡ line) × (heldCount (s .iac) ≡ count) × Holds ls s
+Holds (handed line count ∷ ls) s = Holds ls (holding line count s)
 
 -- each example holds from reset
 unfoldable pub AllHold : List (List Line) → Type 0

@@ -4,7 +4,7 @@ use mathlib.Core.List.{List, [], _∷_, _++_}
 use Prim.Native.Nat.{ℕ}
 use Rattle.device.specs.declared.event.Block.{Block}
 use Rattle.device.specs.declared.event.Block.the-variants.{Rifsc, Iac, Risaf}
-use Rattle.worked.specs.Example.{Line, gives, prints, reads, writes, asks, asksWide, masterAsks}
+use Rattle.worked.specs.Example.{Line, gives, prints, keeps, handed, reads, writes, asks, asksWide, masterAsks}
 
 abbrev pub guard2 : Block
 guard2 = Risaf (record { 0 = 2 })
@@ -141,6 +141,42 @@ q2Set width =
     ∷ gives (masterAsks width 6 2 0 false) 0 0
     ∷ []
 
+-- Q-4. Flag 140 is guard 2's, bit 12 of ISR4: IER4 is at 010, ICR4 at 110. Enabled, then raised as in W2, raised again, and cleared
+abbrev pub q4Kept : List Line
+q4Kept =
+    gives (writes Iac 0x010 0x0000_1000 true true) 0 0
+    ∷ keeps 0 0
+    ∷ gives (asks 2 0 false 2 true true) 1 3
+    ∷ keeps 1 1
+    ∷ gives (asks 2 0 false 2 true true) 1 3
+    ∷ keeps 1 1
+    ∷ gives (writes Iac 0x110 0x0000_1000 true true) 0 0
+    ∷ keeps 0 0
+    ∷ []
+
+-- handed in with the line up and the count 0: a read leaves both, and a flag raised that is not enabled lets the line down
+abbrev pub q4Handed : List Line
+q4Handed =
+    handed 1 0
+    ∷ gives (reads Iac 0x010 true true) 0 0
+    ∷ keeps 1 0
+    ∷ gives (asks 2 0 false 2 true true) 1 3
+    ∷ keeps 0 0
+    ∷ []
+
+-- handed in with the line down and the count 255: an enable changed holds the line up, one flag more makes the count 0, modulo 256, and one
+-- less 255 again
+abbrev pub q4Modulo : List Line
+q4Modulo =
+    handed 0 255
+    ∷ gives (writes Iac 0x010 0x0000_1000 true true) 0 0
+    ∷ keeps 1 255
+    ∷ gives (asks 2 0 false 2 true true) 1 3
+    ∷ keeps 0 0
+    ∷ gives (writes Iac 0x110 0x0000_1000 true true) 0 0
+    ∷ keeps 1 255
+    ∷ []
+
 unfoldable pub worked : List (List Line)
 worked =
     w1 1 ∷ w2 1 ∷ w3 1 ∷ w4 1 ∷ w5 ∷ w6 ∷ w7 ∷ w8 ∷ w9 ∷ w10 ∷ w11 ∷ w12 ∷ w13 ∷ w14
@@ -150,4 +186,6 @@ worked =
     ∷ w1 4 ∷ w2 4 ∷ w3 4 ∷ w4 4
     -- Q-2
     ∷ q2Clear 1 ∷ q2Set 1 ∷ q2Clear 2 ∷ q2Set 2 ∷ q2Clear 4 ∷ q2Set 4
+    -- Q-4
+    ∷ q4Kept ∷ q4Handed ∷ q4Modulo
     ∷ []
