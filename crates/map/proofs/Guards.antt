@@ -4,10 +4,8 @@ use mathlib.Core.List.{List}
 use mathlib.Core.Path.{_≡_, sym, _∙_}
 use Prim.Native.Nat.{ℕ, _^_, _≤_}
 use lib.ListN.{length}
-use borrow.Author.Tests.{le-leb, not-false}
-use Rattle.regions.specs.Lent.{rightsIn}
-use Rattle.regions.specs.Rights.{rightsWord}
-use Rattle.regions.specs.Words.{base, mostRegions}
+use borrow.Author.Tests.{not-false}
+use Rattle.regions.specs.Words.{mostRegions}
 use Rattle.risaf.specs.Contents.{regionsWords}
 use Rattle.risaf.specs.Guards.{shapeOf}
 use Rattle.risaf.proofs.Shapes.{regions-most, window-most, place-lt}
@@ -31,9 +29,3 @@ guard-regions m n h = regions-read m (shapeOf n .place) h (place-lt n)
 pub guard-regions-length : (m : List ℕ) (n : ℕ) → length m ≡ stateWords → length (guardOf (stateOf m) n .regions) ≡ regionsWords
 unfolding guardOf
 guard-regions-length m n h = regions-length m (shapeOf n .place) h (place-lt n)
-
--- ---- words enough for the rules
-
-pub rights-enough : (w : List ℕ) (n o : ℕ) → n ≤ mostRegions → base n ≤ length w → rightsIn w n o ≡ rightsWord w n o
-unfolding rightsIn
-rights-enough w n o h l = simp (le-leb n mostRegions h, le-leb (base n) (length w) l)

@@ -1,9 +1,8 @@
-use crate::bounds::next;
 use access::Answer;
 use access::Why;
 use device::STATE_WORDS;
 use device::region_words;
-use regions::rights_at;
+use regions::stretch_at;
 use risaf::GuardNumber;
 ghost use mathlib.Core.Path.{_≡_};
 ghost use Prim.Native.Nat.{_^_, _≤_};
@@ -37,10 +36,9 @@ fn sweep(w: &[u32], n: usize, window: u64, lent: &mut [u64]) -> usize
     let mut at: u64 = 0;
     let mut count: usize = 0;
     while at < window {
-        let rightsWord = rights_at(w, n, at as u32);
-        let to = next(w, n, at, window);
-        count = spans::put(lent, count, at, to - 1, rightsWord);
-        at = to;
+        let stretch = stretch_at(w, n, at as u32, window);
+        count = spans::put(lent, count, at, stretch.to - 1, stretch.rights);
+        at = stretch.to;
     }
     count
 }

@@ -1,5 +1,4 @@
 // The map of a guard in the caller's memory: who may do what at which offset.
-mod bounds;
 pub mod fill;
 pub mod part;
 

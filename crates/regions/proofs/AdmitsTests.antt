@@ -14,11 +14,11 @@ use Rattle.words.proofs.Laws.{bit-ones, bit-pow, bit-shr, bit-word, bit-zero}
 use Rattle.words.proofs.Ops.{bit-or}
 use Rattle.access.specs.Fold.{any, all}
 use Rattle.access.specs.declared.kind.Kind.{Kind}
-use Rattle.access.proofs.Folds.{all-same}
-use Rattle.regions.specs.Words.{base, sub, cidcfgrAt, secBit, privcBit, rdenBit, wrenBit, readBit, writeBit}
-use Rattle.regions.specs.Rules.{Tests, reasonOf, covers, everyBase, srcid, tests0, tests1, tests2, opens, someSub, counted, covered, tests, decided}
+use Rattle.access.proofs.Folds.{any-same, all-same}
+use Rattle.regions.specs.Words.{base, sub, cidcfgrAt, enableBit, secBit, privcBit, rdenBit, wrenBit, readBit, writeBit}
+use Rattle.regions.specs.Rules.{Tests, reasonOf, covers, counts, everyBase, srcid, tests0, tests1, tests2, opens, someSub, counted, covered, tests, decided}
 use Rattle.regions.specs.Masks.{masks, Passed, Next}
-use Rattle.regions.specs.Admits.{byDefault, byBases, bySubs, byRegions, admitted, openTo, testsOf, verdictOf}
+use Rattle.regions.specs.Admits.{byDefault, byBases, bySubs, byRegions, byMasks, admitted, openTo, testsOf, verdictOf}
 use Rattle.regions.specs.declared.admits.Admits.{Admits}
 use Rattle.regions.specs.declared.masks.Masks.{Masks}
 use Rattle.regions.specs.declared.rules.Verdict.{Verdict}
@@ -185,6 +185,18 @@ module _ (w : List ℕ) (n o : ℕ) {r : ℕ} (next : Next w o 0 n r) where
   one-found d =
       let l : r < n = omega (arith, next .high, d) in
       rw (some-covered w o n r l (next .found l)) refl
+
+-- what its one pass over all base regions finds: one that covers has its enable in CFGR
+pub masks-found : (w : List ℕ) (n o : ℕ) → byMasks (masks w n o) ≡ admitted w n o
+unfolding byMasks admitted
+masks-found w n o =
+    ap (λ (c : Bool). cond c (byRegions (masks w n o)) byDefault)
+    (some-bit w o n enableBit ∙ any-same n _ _ (λ x h. own (bit (getD w (base x) 0) enableBit) _))
+  where
+    own : (e i : Bool) → ((e && i) && e) ≡ (e && i)
+    own true true = refl
+    own true false = refl
+    own false i = refl
 
 -- ---- the theorem
 

@@ -6,6 +6,7 @@ use Prim.Native.Nat.{ℕ, _*_, _≤_}
 use lib.ListN.{length}
 use borrow.Author.Tests.{le-leb}
 use Rattle.access.specs.declared.kind.Kind.{Kind}
+use Rattle.regions.specs.Ahead.{ahead, aheadIn}
 use Rattle.regions.specs.Lent.{decidedIn, rightsIn}
 use Rattle.regions.specs.Rights.{rightsWord}
 use Rattle.regions.specs.Rules.{decided}
@@ -21,3 +22,8 @@ module _ (w : List ℕ) (n o : ℕ) (h : n ≤ 11) (l : 12 * n ≤ length w) whe
   unfolding rightsIn
   rights-enough =
       ap (λ (b : Bool). cond b (rightsWord w n o) 0) (ap₂ _&&_ (le-leb n 11 h) (le-leb (12 * n) (length w) l))
+
+  pub ahead-enough : (to : ℕ) → aheadIn w n o to ≡ ahead w n o to
+  unfolding aheadIn
+  ahead-enough to =
+      ap (λ (b : Bool). cond b (ahead w n o to) to) (ap₂ _&&_ (le-leb n 11 h) (le-leb (12 * n) (length w) l))

@@ -2,8 +2,10 @@ pub mod AdmitsTests
 pub mod ByteBits
 pub mod Digits
 pub mod Enough
+pub mod Found
 pub mod Gathered
 pub mod Granted
+pub mod Lies
 pub mod MaskBits
 pub mod NamedBits
 pub mod OneTest
@@ -11,4 +13,6 @@ pub mod Openings
 pub mod Reasons
 pub mod RightsBits
 pub mod RightsBytes
+pub mod SameCover
 pub mod SameVerdict
+pub mod Stay

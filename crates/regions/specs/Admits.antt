@@ -8,7 +8,7 @@ use lib.Dec.{eqb}
 use Rattle.words.specs.Bit.{bit, one, word, field}
 use Rattle.access.specs.Kind.{kindOf}
 use Rattle.access.specs.declared.kind.Kind.{Kind}
-use Rattle.regions.specs.Words.{secBit, privcBit, readBit, writeBit}
+use Rattle.regions.specs.Words.{enableBit, secBit, privcBit, readBit, writeBit}
 use Rattle.regions.specs.Rules.{Tests, reasonOf, granted, covered}
 use Rattle.regions.specs.Masks.{masks}
 use Rattle.regions.specs.declared.admits.Admits.{Admits}
@@ -52,6 +52,10 @@ bySubs m =
 -- where some base region covers: a subregion counts where opens has a bit
 unfoldable pub byRegions : Masks → Admits
 byRegions m = cond (eqb (m .opens) 0) (byBases m) (bySubs m)
+
+-- some base region covers where some CFGR has the enable
+unfoldable pub byMasks : Masks → Admits
+byMasks m = cond (bit (m .some) enableBit) (byRegions m) byDefault
 
 unfoldable pub admitted : List ℕ → ℕ → ℕ → Admits
 admitted w n o = cond (covered w n o) (byRegions (masks w n o)) byDefault

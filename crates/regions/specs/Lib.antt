@@ -6,6 +6,7 @@
 --     Lent      meaning: the same over words that may be too few
 --     Masks     what the code gathers of the regions
 --     Admits    the tests, as the code makes them of that; proofs/AdmitsTests has the law that they are Rules
+--     Ahead     what the code of a map goes by; proofs/Stay has the law that the rights stay up to there
 pub mod Words
 pub mod Rules
 pub mod Grants
@@ -13,3 +14,4 @@ pub mod Rights
 pub mod Lent
 pub mod Masks
 pub mod Admits
+pub mod Ahead

@@ -50,9 +50,9 @@ baseGathered w x o m =
     (subGathered w x 1 o (subGathered w x 0 o (withWords (getD w (base x) 0) (getD w (base x + cidcfgrAt) 0) m)))
     m
 
--- of n base regions
-unfoldable pub masks : List ℕ → ℕ → ℕ → Masks
-masks w zero o =
+-- of none
+abbrev pub noneGathered : Masks
+noneGathered =
     record {
       some = 0;
       every = 2 ^ 32 - 1;
@@ -61,6 +61,10 @@ masks w zero o =
       privileged = 2 ^ 32 - 1;
       opens = 0;
     }
+
+-- of n base regions
+unfoldable pub masks : List ℕ → ℕ → ℕ → Masks
+masks w zero o = noneGathered
 masks w (suc n) o = baseGathered w n o (masks w n o)
 
 -- ---- the search for a base region that covers

@@ -1,16 +1,12 @@
 use crate::masks::Masks;
-use crate::masks::gathered;
+use crate::places::ENABLE;
 use crate::places::PRIVC;
 use crate::places::READS;
 use crate::places::SEC;
 use crate::places::WRITES;
 ghost use mathlib.Core.Bool.{cond};
 ghost use mathlib.Core.Path.{_≡_};
-ghost use Prim.Native.Nat.{_≤_};
-ghost use lib.ListN.{length};
-ghost use Rattle.regions.specs.Words.{base};
-ghost use Rattle.regions.specs.Masks.{Passed, masks};
-ghost use Rattle.regions.specs.Admits.{admitsSecurity, byBases, byDefault, byRegions, bySubs, openTo, withDebugger};
+ghost use Rattle.regions.specs.Admits.{admitsSecurity, byBases, byDefault, byMasks, byRegions, bySubs, openTo, withDebugger};
 
 // Who passes the tests of the rule that governs an offset, in their order: security, privilege, compartment and direction. Bit c of a
 // mask is CID c; what is above bit 7 means nothing.
@@ -94,16 +90,24 @@ fn by_subs(m: Masks) -> Admits
     }
 }
 
-// Rule 2, or else rule 1, by the words of n base regions of which some one covers and none below `from` does.
-pub(crate) fn by_regions(w: &[u32], from: usize, n: usize, o: u32) -> Admits
-    requires { ⌜ (from ≤ n) × (base n ≤ length (now w)) × Passed (now w) o 0 from ⌝ }
-    ensures { λ r. ⌜ r ≡ byRegions (masks (now (w .entry)) n o) ⌝ }
+// Rule 2, or else rule 1, where some base region covers.
+pub(crate) fn by_regions(m: Masks) -> Admits
+    ensures { λ r. ⌜ r ≡ byRegions m ⌝ }
 {
-    let m = gathered(w, from, n, o);
     if m.opens == 0 {
         return by_bases(m);
     }
     by_subs(m)
+}
+
+// The same, or else rule 0: every base region that covers has its enable in CFGR.
+pub(crate) fn by_masks(m: Masks) -> Admits
+    ensures { λ r. ⌜ r ≡ byMasks m ⌝ }
+{
+    if (m.some >> ENABLE) % 2 != 1 {
+        return by_default();
+    }
+    by_regions(m)
 }
 
 // Whether this security passes.

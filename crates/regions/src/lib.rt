@@ -1,11 +1,15 @@
-// What the regions of a guard grant: the verdict on an access, and the rights of all kinds of asking in one word.
+// What the regions of a guard grant: the verdict on an access, the rights of all kinds of asking in one word, and up to where they stay.
 mod admits;
+mod ahead;
 mod masks;
 pub mod places;
 mod rights;
 pub mod rules;
+mod scan;
 
+pub use rights::Stretch;
 pub use rights::rights_at;
+pub use rights::stretch_at;
 pub use rules::NO_REASON;
 pub use rules::Verdict;
 pub use rules::decide;

@@ -17,7 +17,7 @@ ghost use Prim.Native.Nat.{_+_, _*_, _≤_, _<_};
 ghost use lib.ListN.{length};
 ghost use Rattle.regions.specs.Words.{base, endAt, regionWords};
 ghost use Rattle.regions.specs.Rules.{covers};
-ghost use Rattle.regions.specs.Masks.{Next, Passed, baseGathered, masks, opening, subGathered};
+ghost use Rattle.regions.specs.Masks.{Next, Passed, baseGathered, masks, noneGathered, opening, subGathered};
 
 // What the base regions that cover say, of those that were looked at.
 pub(crate) struct Masks {
@@ -30,6 +30,20 @@ pub(crate) struct Masks {
     pub(crate) privileged: u32,
     // The SRCIDs of those that enable reads, from bit 0; of all that count, from bit 8; of those that enable writes, from bit 16.
     pub(crate) opens: u32,
+}
+
+// Where none was looked at.
+pub(crate) fn none_gathered() -> Masks
+    ensures { λ r. ⌜ r ≡ noneGathered ⌝ }
+{
+    Masks {
+        some: 0,
+        every: 0xffff_ffff,
+        enables: 0xffff_ffff,
+        secure: 0xffff_ffff,
+        privileged: 0xffff_ffff,
+        opens: 0,
+    }
 }
 
 // The region or subregion at p is enabled and covers the offset.
@@ -75,7 +89,7 @@ fn sub_gathered(w: &[u32], x: usize, s: usize, o: u32, m: Masks) -> Masks
 }
 
 // With what base region x and its subregions say: nothing where it does not cover.
-fn base_gathered(w: &[u32], x: usize, o: u32, m: Masks) -> Masks
+pub(crate) fn base_gathered(w: &[u32], x: usize, o: u32, m: Masks) -> Masks
     requires { ⌜ base x + regionWords ≤ length (now w) ⌝ }
     ensures { λ r. ⌜ r ≡ baseGathered (now (w .entry)) x o m ⌝ }
 {
@@ -115,14 +129,7 @@ pub(crate) fn gathered(w: &[u32], from: usize, n: usize, o: u32) -> Masks
     requires { ⌜ (from ≤ n) × (base n ≤ length (now w)) × Passed (now w) o 0 from ⌝ }
     ensures { λ r. ⌜ r ≡ masks (now (w .entry)) n o ⌝ }
 {
-    let mut m = Masks {
-        some: 0,
-        every: 0xffff_ffff,
-        enables: 0xffff_ffff,
-        secure: 0xffff_ffff,
-        privileged: 0xffff_ffff,
-        opens: 0,
-    };
+    let mut m = none_gathered();
     for x in from..n {
         m = base_gathered(w, x, o, m);
     }

@@ -1,13 +1,13 @@
 use crate::admits::Admits;
 use crate::admits::admits_security;
-use crate::admits::by_default;
-use crate::admits::by_regions;
+use crate::admits::by_masks;
 use crate::admits::open_to;
-use crate::masks::next_covering;
 use crate::places::MOST_REGIONS;
 use crate::places::REGION_WORDS;
+use crate::scan::scanned;
 ghost use mathlib.Core.Bool.{false};
 ghost use mathlib.Core.Path.{_≡_};
+ghost use Rattle.regions.specs.Ahead.{aheadIn};
 ghost use Rattle.regions.specs.Lent.{rightsIn};
 ghost use Rattle.regions.specs.Admits.{byteAt, byteOf, rightsFrom};
 
@@ -46,19 +46,35 @@ fn word(a: Admits) -> u64
     half(a, true) as u64 * 0x1_0000_0000 + half(a, false) as u64
 }
 
+// A stretch of offsets that have one rights word: the word, and the offset past the last of them.
+pub struct Stretch {
+    pub rights: u64,
+    pub to: u64,
+}
+
+// The stretch from an offset on, by the words of n base regions: up to a boundary of theirs that is ahead, or to `to` where that is
+// nearer. Where the words are too few, no rights up to `to`.
+pub fn stretch_at(w: &[u32], n: usize, o: u32, to: u64) -> Stretch
+    ensures { λ r. ⌜ r .rights ≡ rightsIn (now (w .entry)) n o ⌝ }
+    ensures { λ r. ⌜ r .to ≡ aheadIn (now (w .entry)) n o to ⌝ }
+{
+    let nothing = Stretch { rights: 0, to };
+    if MOST_REGIONS < n {
+        return nothing;
+    }
+    if w.len() < REGION_WORDS * n {
+        return nothing;
+    }
+    let s = scanned(w, n, o, to);
+    Stretch {
+        rights: word(by_masks(s.masks)),
+        to: s.to,
+    }
+}
+
 // The rights word of an offset, by the words of n base regions: 0 where they are too few.
 pub fn rights_at(w: &[u32], n: usize, o: u32) -> u64
     ensures { λ r. ⌜ r ≡ rightsIn (now (w .entry)) n o ⌝ }
 {
-    if MOST_REGIONS < n {
-        return 0;
-    }
-    if w.len() < REGION_WORDS * n {
-        return 0;
-    }
-    let first = next_covering(w, 0, n, o);
-    if first == n {
-        return word(by_default());
-    }
-    word(by_regions(w, first, n, o))
+    stretch_at(w, n, o, 0).rights
 }

@@ -3,6 +3,7 @@ use crate::admits::admits_security;
 use crate::admits::by_default;
 use crate::admits::by_regions;
 use crate::admits::open_to;
+use crate::masks::gathered;
 use crate::masks::next_covering;
 use crate::places::MOST_REGIONS;
 use crate::places::REGION_WORDS;
@@ -82,5 +83,5 @@ pub fn decide(w: &[u32], n: usize, o: u32, k: Kind) -> Verdict
     if first == n {
         return judged(by_default(), k);
     }
-    judged(by_regions(w, first, n, o), k)
+    judged(by_regions(gathered(w, first, n, o)), k)
 }

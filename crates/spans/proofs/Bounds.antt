@@ -83,3 +83,19 @@ next-fewer (b ∷ bs) at w h g =
     (λ e. rw e (omega (arith, fewer-one b at t (omega (arith, next-above bs at w h)), next-fewer bs at w h (omega arith))))
     (λ e. rw (e .0, le-ltb b b (omega arith), lt-ltb at b (e .1)) (omega (arith, fewer bs at b (omega arith))))
     (is-nearer at b t .is)
+
+-- ---- a boundary of the list
+
+unfoldable pub Among : ℕ → List ℕ → Type 0
+Among b [] = ⊥
+Among b (c ∷ bs) = (b ≡ c) ⊎ Among b bs
+
+-- it has fewer above it than what lies before it
+pub among-fewer : (bs : List ℕ) (at b : ℕ) → Among b bs → at < b → above bs b < above bs at
+unfolding Among above
+among-fewer [] at b m h = absurd m
+among-fewer (c ∷ bs) at b m h =
+    ⊎-elim
+    (λ e. rw (← e, le-ltb b b (omega arith), lt-ltb at b h) (omega (arith, fewer bs at b (omega arith))))
+    (λ k. omega (arith, fewer-one c at b (omega arith), among-fewer bs at b k h))
+    m

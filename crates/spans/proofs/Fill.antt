@@ -7,13 +7,11 @@ use lib.ListN.{length}
 use Rattle.spans.specs.Rows.{size, flat, filled}
 use Rattle.spans.specs.Map.{join, mapOf}
 use Rattle.spans.specs.Put.{putCount, putIn}
-use Rattle.spans.specs.Sweep.{nextOf}
 use Rattle.spans.proofs.Joined.{size-join}
 use Rattle.spans.proofs.Memory.{filled-length}
 use Rattle.spans.proofs.Added.{put-joins}
-use Rattle.spans.proofs.Steady.{Steady}
-use Rattle.spans.proofs.Bounds.{next-le, above, above-le, next-fewer}
-use Rattle.spans.proofs.Sweep.{step}
+use Rattle.spans.proofs.Bounds.{above, above-le}
+use Rattle.spans.proofs.Sweep.{Turn, turned}
 
 -- after the turns up to at, l is l₀ with the map below at over its front, of count rows; before the last turn the rows and the boundaries above at
 -- are at most as many as all boundaries, so that there is room for a row more
@@ -29,18 +27,18 @@ unfolding mapOf filled flat size
 swept-begin f bs w l = record { within = omega arith; counted = refl; memory = refl; long = refl; few = λ h. omega (arith, above-le bs 0) }
 
 module _ {f : ℕ → ℕ} {bs : List ℕ} {w : ℕ} {l₀ : List ℕ} {at count : ℕ} {l : List ℕ} (S : Swept f bs w l₀ at count l) where
-  -- a turn: one span from at to before the next boundary, with f's rights at at
-  pub swept-turn : Steady f bs → 3 * (length bs + 1) ≤ length l₀ → at < w → {q to count′ : ℕ} {l′ : List ℕ}
-      → q ≡ f at → to ≡ nextOf bs at w → count′ ≡ putCount l count q → l′ ≡ putIn l count at (to - 1) q → Swept f bs w l₀ to count′ l′
-  swept-turn steady room h {q} {to} {count′} {l′} eq et ec el =
+  -- a turn: one span from at up to `to`, with f's rights at at
+  pub swept-turn : 3 * (length bs + 1) ≤ length l₀ → at < w → {q to count′ : ℕ} {l′ : List ℕ} → Turn f bs w at to
+      → q ≡ f at → count′ ≡ putCount l count q → l′ ≡ putIn l count at (to - 1) q → Swept f bs w l₀ to count′ l′
+  swept-turn room h {q} {to} {count′} {l′} t eq ec el =
       let j = put-joins (mapOf f at) l₀ l count at (to - 1) q (S .counted) (S .memory) (omega (arith, S .few h)) in
-      let e : mapOf f to ≡ join (mapOf f at) at (to - 1) q = rw (et, eq) (step steady w at h) in
+      let e : mapOf f to ≡ join (mapOf f at) at (to - 1) q = rw eq (turned t) in
       record {
-        within = rw et (next-le bs at w);
+        within = t .within;
         counted = rw (ec, e) (j .0);
         memory = rw (el, e) (j .1);
         long = rw (el, j .1) (filled-length (join (mapOf f at) at (to - 1) q) l₀ (omega (arith, S .few h, S .counted, size-join (mapOf f at) at (to - 1) q)));
-        few = λ g. rw et (omega (arith, S .few h, next-fewer bs at w h (rw et at g), ec, j .0, S .counted, size-join (mapOf f at) at (to - 1) q));
+        few = λ g. omega (arith, S .few h, t .fewer g, ec, j .0, S .counted, size-join (mapOf f at) at (to - 1) q);
       }
 
   -- the end: the map of f below w over the front of l₀

@@ -14,15 +14,31 @@ use Rattle.spans.proofs.Joined.{run, size-join}
 use Rattle.spans.proofs.Steady.{Steady}
 use Rattle.spans.proofs.Bounds.{next-clear, next-le, next-above, above, above-le, next-fewer}
 
+-- a turn of a sweep may go from at on to `to`: f stays up to there, and it is w, or has fewer boundaries above it
+pub record Turn (f : ℕ → ℕ) (bs : List ℕ) (w at to : ℕ) : Type 0 where
+  pub past : at < to
+  pub within : to ≤ w
+  pub stays : (x : ℕ) → at ≤ x → x < to → f x ≡ f at
+  pub fewer : to < w → above bs to < above bs at
+
+-- the map goes on by one span
+pub turned : {f : ℕ → ℕ} {bs : List ℕ} {w at to : ℕ} → Turn f bs w at to → mapOf f to ≡ join (mapOf f at) at (to - 1) (f at)
+turned {f} {bs} {w} {at} {to} t =
+    let l = t .past in
+    let e : suc (to - 1) ≡ to = omega arith in
+    subst (λ (k : ℕ). mapOf f k ≡ join (mapOf f at) at (to - 1) (f at)) e
+    (run f at (to - 1) (omega arith) (λ x a b. t .stays x a (omega arith)))
+
 module _ {f : ℕ → ℕ} {bs : List ℕ} (steady : Steady f bs) (w : ℕ) where
-  -- up to the next boundary the map goes on by one span
-  pub step : (at : ℕ) → at < w → mapOf f (nextOf bs at w) ≡ join (mapOf f at) at (nextOf bs at w - 1) (f at)
-  step at h =
-      let t = nextOf bs at w in
-      let a : at < t = next-above bs at w h in
-      let e : suc (t - 1) ≡ t = omega arith in
-      subst (λ (k : ℕ). mapOf f k ≡ join (mapOf f at) at (t - 1) (f at)) e
-      (run f at (t - 1) (omega arith) (λ x l u. steady .stays at x l (next-clear bs at w x (omega arith))))
+  -- one turn goes to the next boundary
+  next-turn : (at : ℕ) → at < w → Turn f bs w at (nextOf bs at w)
+  next-turn at h =
+      record {
+        past = next-above bs at w h;
+        within = next-le bs at w;
+        stays = λ x l u. steady .stays at x l (next-clear bs at w x u);
+        fewer = next-fewer bs at w h;
+      }
 
   -- enough turns are left: one for each boundary above at, and one
   sweeps : (turns at : ℕ) (rs : Rows) → at ≤ w → (at < w → above bs at < turns) → rs ≡ mapOf f at → sweepFrom f bs w turns at rs ≡ mapOf f w
@@ -33,7 +49,7 @@ module _ {f : ℕ → ℕ} {bs : List ℕ} (steady : Steady f bs) (w : ℕ) wher
       ⊎-elim
       (λ l.
       simp (lt-ltb at w l)
-      (sweeps turns t (join rs at (t - 1) (f at)) (next-le bs at w) (λ g. omega (arith, k l, next-fewer bs at w l g)) (rw e (sym (step at l)))))
+      (sweeps turns t (join rs at (t - 1) (f at)) (next-le bs at w) (λ g. omega (arith, k l, next-fewer bs at w l g)) (rw e (sym (turned (next-turn at l))))))
       (λ g. let i : at ≡ w = omega arith in simp (le-ltb at w g) (rw (← i) e))
       (below-or at w)
 

@@ -5,12 +5,13 @@ use native.Mathlib.Omega.{arith}
 use denote.Ref.{now}
 use borrow.Author.Needs.{needs}
 use Rattle.regions.specs.Rights.{rightsWord}
+use Rattle.regions.proofs.Enough.{rights-enough}
 use Rattle.spans.specs.Sweep.{boundsOf}
-use Rattle.spans.proofs.Bounds.{next-above}
+use Rattle.spans.proofs.Sweep.{Turn}
 use Rattle.spans.proofs.Fill.{Swept, swept-begin, swept-turn, swept-end}
 use Rattle.map.specs.Bounds.{pairsOf}
-use Rattle.map.proofs.Steady.{steady, bounds-most}
-use Rattle.map.proofs.Guards.{rights-enough}
+use Rattle.map.proofs.Steady.{bounds-most}
+use Rattle.map.proofs.Turns.{turn}
 use Rattle.map.proofs.fill.sweep.Statement.{statement}
 use Rattle.map.proofs.fill.sweep.Tie as tie
 
@@ -23,33 +24,33 @@ abbrev μ-loop : tie.MeasureT-loop
 loop-holds : tie.Need-loop-holds Inv-loop μ-loop
 loop-holds c = swept-begin _ _ _ _
 
-sub-put : tie.Need-sub-put Inv-loop μ-loop
-sub-put c =
-    let t = c .before in
-    let l = t .before .before .before in
+-- the stretch that a turn is given goes on
+goes : (s : tie.After-stretch-at Inv-loop μ-loop)
+    → let l = s .before .before in
     let a = l .before .before .before .args in
-    let h = next-above (boundsOf (pairsOf (now (a .w)) (a .n))) (l .loop .at) (a .window) (t .before .before .loop-test .taken) in
-    omega (arith, h, t .next .ensures)
+    Turn (rightsWord (now (a .w)) (a .n)) (boundsOf (pairsOf (now (a .w)) (a .n))) (a .window) (l .loop .at) (s .stretch-at .result .to)
+goes s =
+    let l = s .before .before in
+    let b = l .before .before .before in
+    turn (now (b .args .w)) (b .args .n) (b .args .window) (l .loop .at) (b .pre .0) (b .pre .1) (s .before .loop-test .taken)
+    (s .stretch-at .ensures .1)
+
+sub-put : tie.Need-sub-put Inv-loop μ-loop
+sub-put c = omega (arith, goes (c .before .before) .past)
 
 loop-less : tie.Need-loop-less Inv-loop μ-loop
 loop-less c =
-    let t = c .before .before .before .before in
-    let l = t .before .before .before in
-    let a = l .before .before .before .args in
-    let h = next-above (boundsOf (pairsOf (now (a .w)) (a .n))) (l .loop .at) (a .window) (t .before .before .loop-test .taken) in
-    omega (arith, h, t .next .ensures)
+    let t = goes (c .before .before .before .before .before) in
+    omega (arith, t .past, t .within)
 
 loop-again : tie.Need-loop-again Inv-loop μ-loop
 loop-again c =
-    let t = c .before .before .before .before in
-    let l = t .before .before .before in
-    let b = l .before .before .before in
-    let a = b .args in
     let p = c .before .before .put in
-    swept-turn (l .loop .inv) (steady (now (a .w)) (a .n)) (omega (arith, bounds-most (now (a .w)) (a .n) (b .pre .0)))
-    (t .before .before .loop-test .taken)
-    (t .before .rights-at .ensures ∙ rights-enough _ _ _ (b .pre .0) (b .pre .1))
-    (t .next .ensures) (p .ensures .0) (p .ensures .1)
+    let s = c .before .before .before .before .before in
+    let l = s .before .before in
+    let b = l .before .before .before in
+    swept-turn (l .loop .inv) (omega (arith, bounds-most (now (b .args .w)) (b .args .n) (b .pre .0))) (s .before .loop-test .taken) (goes s)
+    (s .stretch-at .ensures .0 ∙ rights-enough _ _ _ (b .pre .0) (b .pre .1)) (p .ensures .0) (p .ensures .1)
 
 same-length : tie.Need-same-length Inv-loop μ-loop
 same-length c = c .before .loop .inv .long
@@ -60,5 +61,5 @@ returns c = swept-end (c .before .loop .inv) (c .loop-test .left)
 pub sweep-spec : {M : Type 1} → statement M
 sweep-spec =
     tie.close
-    (tie.spec Inv-loop μ-loop loop-holds (λ c. search needs) (λ c κs. search needs) (λ c κs. search needs) sub-put
+    (tie.spec Inv-loop μ-loop loop-holds (λ c. search needs) (λ c κs. search needs) sub-put
     (λ c κs. search needs) loop-less loop-again same-length returns)

@@ -1,4 +1,4 @@
-use mathlib.Core.Path.{_≡_}
+use mathlib.Core.Path.{_≡_, _∙_}
 use Prim.Native.Nat.{_≤_, _-_}
 use native.Mathlib.Omega.{arith}
 use borrow.Author.Needs.{needs}
@@ -16,20 +16,20 @@ abbrev μ-loop : tie.MeasureT-loop
 loop-holds : tie.Need-loop-holds Inv-loop μ-loop
 unfolding masks
 loop-holds c =
-    let p = c .before .pre in
-    let a = c .before .args in
-    (p .0, masks-pass (a .w .now) (a .o) (a .from) (p .2))
+    let p = c .before .before .pre in
+    let a = c .before .before .args in
+    (p .0, c .none-gathered .ensures ∙ masks-pass (a .w .now) (a .o) (a .from) (p .2))
 
 loop-again : tie.Need-loop-again Inv-loop μ-loop
 loop-again c = (search needs, masks-more _ _ _ (c .before .before .loop .inv .1) (c .base-gathered .ensures))
 
 returns : tie.Need-returns Inv-loop μ-loop
 returns c =
-    let e : c .before .loop .x ≡ c .before .before .before .args .n = omega arith in
+    let e : c .before .loop .x ≡ c .before .before .before .before .args .n = omega arith in
     cc
 
 pub gathered-spec : {M : Type 1} → statement M
 gathered-spec =
     tie.close
-    (tie.spec Inv-loop μ-loop loop-holds (λ c κs. search needs) (λ c. search needs) (λ c. search needs) loop-again
+    (tie.spec Inv-loop μ-loop (λ c κs. search needs) loop-holds (λ c κs. search needs) (λ c. search needs) (λ c. search needs) loop-again
     returns)

@@ -1,7 +1,7 @@
 use mathlib.Core.Path.{ap, sym, _∙_}
 use borrow.Author.Needs.{needs}
 use borrow.Author.Tests.{lt-leb, le-leb}
-use Rattle.regions.specs.Admits.{verdictOf}
+use Rattle.regions.specs.Admits.{byRegions, verdictOf}
 use Rattle.regions.specs.Lent.{decidedIn}
 use Rattle.regions.specs.declared.admits.Admits.{Admits}
 use Rattle.regions.proofs.AdmitsTests.{none-found, one-found, verdict-is}
@@ -35,21 +35,22 @@ returns-4 c =
     ∙ verdict-is (a .w .now) (a .n) (a .o) (a .k) (d .if3 .left)
     ∙ sym (decided-enough (a .w .now) (a .n) (a .o) (b .before .if1 .left) (b .if2 .left) (a .k) (d .if3 .left))
 
-by-regions-requires : tie.Need-by-regions-requires
-by-regions-requires c κs =
+gathered-requires : tie.Need-gathered-requires
+gathered-requires c κs =
     let s = c .before in
     let b = s .before .before .before .before in
     (s .next-covering .ensures .high, b .if2 .left, s .next-covering .ensures .passed)
 
 returns-5 : tie.Need-returns-5
 returns-5 c =
-    let s = c .before .before .before in
+    let s = c .before .before .before .before in
     let d = s .before in
     let b = d .before .before .before in
     let a = b .before .before .before .args in
     c .judged2 .ensures
     ∙ ap (λ (x : Admits). verdictOf x (a .k))
-    (c .before .by-regions .ensures ∙ one-found (a .w .now) (a .n) (a .o) (s .next-covering .ensures) (c .before .before .if4 .left))
+    (c .before .by-regions .ensures ∙ ap byRegions (c .before .before .gathered .ensures)
+    ∙ one-found (a .w .now) (a .n) (a .o) (s .next-covering .ensures) (c .before .before .before .if4 .left))
     ∙ verdict-is (a .w .now) (a .n) (a .o) (a .k) (d .if3 .left)
     ∙ sym (decided-enough (a .w .now) (a .n) (a .o) (b .before .if1 .left) (b .if2 .left) (a .k) (d .if3 .left))
 
@@ -57,4 +58,4 @@ pub decide-spec : {M : Type 1} → statement M
 decide-spec =
     tie.close
     (tie.spec returns (λ c. search needs) returns-2 returns-3 (λ c κs. search needs) (λ c κs. search needs)
-    (λ c κs. search needs) returns-4 by-regions-requires (λ c κs. search needs) returns-5)
+    (λ c κs. search needs) returns-4 gathered-requires (λ c κs. search needs) (λ c κs. search needs) returns-5)
