@@ -1,5 +1,5 @@
 /*
- * The STM32N6 resource isolation framework as a model: RIFSC, IAC and the thirteen RISAF ("guards"), in the caller's memory.
+ * The STM32N6 resource isolation framework as a model: RIFSC, IAC and the seventeen RISAF ("guards"), in the caller's memory.
  *
  * Link with libcapi.a. No function allocates, keeps anything between calls, or reads a clock; each ends for every input.
  *
@@ -14,9 +14,12 @@
  *   39..44   ISR0..5
  *   45       the interrupt line, as it is kept: bit 0
  *   46       the count of flags that are set and enabled, as it is kept: bits 7:0
- *   47..     136 words for each guard, in the order 1 to 9, 11 to 14: CR, IASR, IAESR, IADDR, and eleven regions of twelve words
- *            (CFGR, START, END, CIDCFGR, subregion A's CFGR, START, END, NEST, subregion B's four), whatever the guard's own
- *            count of regions.
+ *   47..     136 words for each guard, in the order 1 to 9, 11 to 15, 21 to 23: CR, IASR, IAESR, IADDR, and eleven regions of
+ *            twelve words (CFGR, START, END, CIDCFGR, subregion A's CFGR, START, END, NEST, subregion B's four), whatever the
+ *            guard's own count of regions.
+ *
+ * GUARDS. 1 to 9 and 11 to 14 stand on AXI; 15, 21, 22 and 23 on AHB, which carries no CID: a memory access to one of these counts, and
+ * is recorded in IAESR, as CID 0, also a master's, and each byte of its rights word is 00 or ff. A CID over 7 gets 4 all the same.
  *
  * ANSWER. One uint64_t, 2^32 * number + value:
  *   0  done or granted; the value is the word that a register read gives, or the rule that governed a memory access
@@ -49,7 +52,7 @@
 extern "C" {
 #endif
 
-#define RIF_STATE_WORDS 1815 /* the exact count of words of a state */
+#define RIF_STATE_WORDS 2359 /* the exact count of words of a state */
 #define RIF_MAP_NUMBERS 201  /* the least count of numbers lent for a map: 67 rows of three */
 #define RIF_DIFF_NUMBERS 665 /* the least count of numbers lent for what differs: 133 rows of five */
 

@@ -3,6 +3,7 @@ use mathlib.Core.Bool.{Bool, true, cond}
 use mathlib.Core.Path.{_≡_, refl, ap, _∙_}
 use Prim.Native.Nat.{ℕ}
 use Rattle.words.specs.Bit.{withBit}
+use Rattle.access.specs.Bus.{heard}
 use Rattle.access.specs.Answer.{left}
 use Rattle.access.specs.declared.answer.Answer.{Answer}
 use Rattle.access.specs.declared.answer.Answer.the-variants.{Done, Refused, Rejected}
@@ -68,20 +69,20 @@ iacWritten q i =
 abbrev rowAt : ℕ → Request → Row
 rowAt n q = rowOf (risaf-registers.registerAt (shapeOf n .regions) (q .offset))
 
-abbrev portWritten : Row → Port → Request → Port
-portWritten row p q = cond (q .write) (withPortWord p (wordWritten row p (q .value) (q .secure))) p
+abbrev portWritten : ℕ → Row → Port → Request → Port
+portWritten granule row p q = cond (q .write) (withPortWord p (wordWritten granule row p (q .value) (q .secure))) p
 
 -- the guard with the word that an access leaves
 abbrev guardWith : Row → Request → Guard → Port → Guard
 guardWith row q g p = cond (q .write) (withWord g (row .place) (p .word)) g
 
-abbrev pub guardWritten : Row → Request → Guard → Guard
-guardWritten row q g = guardWith row q g (portWritten row (portIn (guardWords g) row) q)
+abbrev pub guardWritten : ℕ → Row → Request → Guard → Guard
+guardWritten granule row q g = guardWith row q g (portWritten granule row (portIn (guardWords g) row) q)
 
 unfoldable pub registerEffect : Block → Request → State → State
 registerEffect Rifsc q s = withRifsc s (rifscWritten q (s .rifsc))
 registerEffect Iac q s = withIac s (iacWritten q (s .iac))
-registerEffect (Risaf n) q s = withGuard s (n .0) (guardWritten (rowAt (n .0) q) q (guardOf s (n .0)))
+registerEffect (Risaf n) q s = withGuard s (n .0) (guardWritten (shapeOf (n .0) .granule) (rowAt (n .0) q) q (guardOf s (n .0)))
 
 unfoldable pub effect : Event → State → State
 effect Reset s = resetState
@@ -102,7 +103,7 @@ registerRefused Iac s = flagged iacFlag s
 registerRefused (Risaf n) s = flagged (shapeOf (n .0) .flag) (withGuard s (n .0) (guardRefused (guardOf s (n .0))))
 
 abbrev pub memoryRefused : ℕ → ℕ → Kind → State → State
-memoryRefused n o k s = flagged (shapeOf n .flag) (withGuard s n (faulted (guardOf s n) o k))
+memoryRefused n o k s = flagged (shapeOf n .flag) (withGuard s n (faulted (guardOf s n) o (heard (shapeOf n .bus) k)))
 
 unfoldable pub refused : Event → State → State
 refused Reset s = s
@@ -128,10 +129,11 @@ register-leaves (Risaf n) q s =
     let row = rowAt (n .0) q in
     let p = portIn (guardWords g) row in
     let flag = shapeOf (n .0) .flag in
-    let t = left a p (portWritten row p q) (refusedPort p) in
+    let written = portWritten (shapeOf (n .0) .granule) row p q in
+    let t = left a p written (refusedPort p) in
     left-part a s g (guardWith row q g t) (withWord g iasrAt (t .iasr)) (withGuard s (n .0))
     (λ h. flagged flag (withGuard s (n .0) h))
-    ∙ left-part a s p (portWritten row p q) (refusedPort p) (λ o. withGuard s (n .0) (guardWith row q g o))
+    ∙ left-part a s p written (refusedPort p) (λ o. withGuard s (n .0) (guardWith row q g o))
     (λ o. flagged flag (withGuard s (n .0) (withWord g iasrAt (o .iasr))))
 
 pub withGuard-same : (s : State) (n : ℕ) → withGuard s n (guardOf s n) ≡ s
@@ -144,7 +146,7 @@ unfolding memoryStep memoryStepped
 memory-leaves there n o width k s =
     let a = memoryStep there n o width k s .answer in
     let g = guardOf s n in
-    left-part a s g g (faulted g o k) (withGuard s n) (λ h. flagged (shapeOf n .flag) (withGuard s n h))
+    left-part a s g g (faulted g o (heard (shapeOf n .bus) k)) (withGuard s n) (λ h. flagged (shapeOf n .flag) (withGuard s n h))
     ∙ ap (λ (t : State). left a s t (memoryRefused n o k s)) (withGuard-same s n)
 
 pub step-leaves : (e : Event) (s : State) → step e s .next ≡ left (step e s .answer) s (effect e s) (refused e s)

@@ -1,11 +1,10 @@
 -- The words of one guard in the lent words: read, and stored.
-use mathlib.Core.List.{List, [], _∷_, _++_, append-nil}
+use mathlib.Core.List.{List, []}
 use mathlib.Core.Path.{_≡_, refl, sym, ap, ap₂, _∙_}
-use Prim.Native.Nat.{ℕ, zero, suc, _+_, _-_, _*_, _<_}
-use native.Mathlib.Numerals.{add-one}
+use Prim.Native.Nat.{ℕ, _+_, _*_, _<_}
 use native.Mathlib.Omega.{arith}
 use borrow.Author.Tests.{eq-eqb, lt-ltb}
-use lib.ListN.{length, length-map, drop-of-length-le, length-set, take, drop, getD, set, replicate, length-drop, length-replicate, getD-replicate, List·getD-map}
+use lib.ListN.{length, length-map, length-set, take, drop, getD, set, length-drop, length-replicate, getD-replicate, List·getD-map}
 use lib.Seq.{paste, set-getD, set-set, getD-set-same, drop-set-add, drop-drop, length-take-le, getD-take, getD-drop}
 use Rattle.risaf.specs.Contents.{headWords, regionsWords, guardSize, guardWords, guardFrom, withWord}
 use Rattle.risaf.specs.Guards.{guardCount}
@@ -138,21 +137,3 @@ guard-stored m p w h l k =
     ∙ part-paste guardSizes (drop guardsAt m) p w (omega arith) (k ∙ sym (getD-replicate guardCount p guardSize 0 l))
     (simp length-drop (omega (arith, total-alike guardCount guardSize))))
     ∙ ap (λ (gs : List Guard). withGuards (stateFrom (partsOf headSizes m) (guardParts m)) gs) (map-set guardFrom (guardParts m) p w)
-
--- the first guards alike, one more
-pub guards-more : (s : State) (i : ℕ) (g : Guard) → i < length (s .guards)
-    → withGuardAt (withGuards s (replicate i g ++ drop i (s .guards))) i g ≡ withGuards s (replicate (i + 1) g ++ drop (i + 1) (s .guards))
-guards-more s i g h = rw add-one (ap (withGuards s) (by i (s .guards) h))
-  where
-    by : (j : ℕ) (gs : List Guard) → j < length gs → set (replicate j g ++ drop j gs) j g ≡ replicate (suc j) g ++ drop (suc j) gs
-    by j [] l = absurd (omega arith)
-    by zero (x ∷ gs) l = refl
-    by (suc j) (x ∷ gs) l = ap (λ (r : List Guard). g ∷ r) (by j gs (omega arith))
-
--- every guard alike
-pub guards-all : (s : State) (g : Guard) → length (s .guards) ≡ guardCount
-    → withGuards s (replicate guardCount g ++ drop guardCount (s .guards)) ≡ withGuards s (replicate guardCount g)
-guards-all s g n =
-    ap (withGuards s)
-    (ap (λ (l : List Guard). replicate guardCount g ++ l) (drop-of-length-le (s .guards) {i = guardCount} (omega arith))
-    ∙ append-nil (replicate guardCount g))

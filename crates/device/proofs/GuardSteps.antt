@@ -11,6 +11,7 @@ use types.Run.{OneOf, miss}
 use denote.Enum.Declared.{tagOf}
 use Rattle.access.proofs.answer.Answer.{the-type}
 use Rattle.access.specs.Answer.{left}
+use Rattle.access.specs.Bus.{heard}
 use Rattle.access.specs.declared.answer.Why.{Why}
 use Rattle.access.specs.declared.answer.Answer.{Answer}
 use Rattle.access.specs.declared.answer.Answer.the-variants.{Done, Refused, Rejected}
@@ -45,7 +46,7 @@ guard-same s p = ap (withGuards s) (set-getD (s .guards) p _)
 
 module _ (s : State) (n : GuardNumber) (q : Request) {shape : Shape} {row : Row} {p : Port} {r : Accessed} (es : shape ≡ shapeOf (n .0))
     (er : row ≡ rowOf (registerAt (shape .regions) (q .offset))) (ep : p ≡ portIn (guardWords (guardAt s (shape .place))) row)
-    (ea : r ≡ accessed (shape .there) row p q) where
+    (ea : r ≡ accessed shape row p q) where
   abbrev g : Guard
   g = guardAt s (shape .place)
 
@@ -86,9 +87,9 @@ module _ (s : State) (there : Bool) (n o width : ℕ) (k : Kind) {shape : Shape}
 
   -- with this answer
   abbrev steppedBy : Answer → Outcome
-  steppedBy b = settled b (shape .flag) s (withGuardAt s (shape .place) (left b h h (faulted h o k)))
+  steppedBy b = settled b (shape .flag) s (withGuardAt s (shape .place) (left b h h (faulted h o (heard (shape .bus) k))))
 
-  memory-is : memoryStep there n o width k s ≡ steppedBy (answerBy (decided (h .regions) (shape .regions) o k))
+  memory-is : memoryStep there n o width k s ≡ steppedBy (answerBy (decided (shape .bus) (h .regions) (shape .regions) o k))
   unfolding memoryStep memoryStepped guardOf withGuard
   memory-is = rw es refl
 
@@ -97,32 +98,32 @@ module _ (s : State) (there : Bool) (n o width : ℕ) (k : Kind) {shape : Shape}
 
   pub memory-rejected : OneOf (1 ∷ 2 ∷ []) (tagOf the-type a)
       → (a ≡ memoryStep there n o width k s .answer) × (s ≡ memoryStep there n o width k s .next)
-  memory-rejected t = rw (memory-is, by-verdict (decided (h .regions) (shape .regions) o k)) (by a refl t)
+  memory-rejected t = rw (memory-is, by-verdict (decided (shape .bus) (h .regions) (shape .regions) o k)) (by a refl t)
     where
       by : (b : Answer) → a ≡ b → OneOf (1 ∷ 2 ∷ []) (tagOf the-type b)
-          → (b ≡ onward b (ruled (decided (h .regions) (shape .regions) o k)))
-          × (s ≡ steppedBy (onward b (ruled (decided (h .regions) (shape .regions) o k))) .next)
+          → (b ≡ onward b (ruled (decided (shape .bus) (h .regions) (shape .regions) o k)))
+          × (s ≡ steppedBy (onward b (ruled (decided (shape .bus) (h .regions) (shape .regions) o k))) .next)
       by (Done x) e t = absurd (miss (1 ∷ 2 ∷ []) 0 tt t)
       by (Refused x) e t = absurd (checked-unrefused (there && shape .there) shape o width k (sym ea ∙ e))
       by (Rejected x) e t = (refl, refl)
 
   -- where nothing rejects it, by the verdict on the words lent
   module _ {x : ℕ} (done : a ≡ Done x) {w : List ℕ} {v : Verdict} (ew : w ≡ h .regions) (lw : length w ≡ regionsWords)
-      (ev : v ≡ decidedIn w (shape .regions) o k) where
+      (ev : v ≡ decidedIn (shape .bus) w (shape .regions) o k) where
     memory-by : memoryStep there n o width k s ≡ steppedBy (ruled v)
     memory-by =
         let m = regions-most n in
         let e : shape .regions ≡ shapeOf n .regions = ap (λ (y : Shape). y .regions) es in
         memory-is
         ∙ ap steppedBy
-        (ap (λ (l : List ℕ). answerBy (decided l (shape .regions) o k)) (sym ew)
-        ∙ sym (answer-in (there && shape .there) shape o width k w (shape .regions) (omega arith) (omega arith))
+        (ap (λ (l : List ℕ). answerBy (decided (shape .bus) l (shape .regions) o k)) (sym ew)
+        ∙ sym (answer-in (there && shape .there) shape o width k (shape .bus) w (shape .regions) (omega arith) (omega arith))
         ∙ ap answerBy (sym ev) ∙ by-verdict v ∙ ap (λ (y : Answer). onward y (ruled v)) done)
 
     pub memory-granted : v .reason ≡ 0
         → (Done (v .rule) ≡ memoryStep there n o width k s .answer) × (s ≡ memoryStep there n o width k s .next)
     memory-granted e = rw memory-by (rw (eq-eqb (v .reason) 0 e) (refl, sym (guard-same s (shape .place))))
 
-    pub memory-refused : (v .reason ≡ 0 → ⊥) → {t : State} → t ≡ flagged (shape .flag) (withGuardAt s (shape .place) (faulted h o k))
+    pub memory-refused : (v .reason ≡ 0 → ⊥) → {t : State} → t ≡ flagged (shape .flag) (withGuardAt s (shape .place) (faulted h o (heard (shape .bus) k)))
         → (Refused (v .reason) ≡ memoryStep there n o width k s .answer) × (t ≡ memoryStep there n o width k s .next)
     memory-refused d e = rw memory-by (rw (ne-eqb (v .reason) 0 d) (refl, e))

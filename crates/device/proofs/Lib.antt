@@ -1,6 +1,7 @@
 pub mod Applies
 pub mod BlockSteps
 pub mod Effects
+pub mod GuardFlags
 pub mod GuardLayout
 pub mod GuardSteps
 pub mod HeldRuns
@@ -17,4 +18,5 @@ pub mod Parts
 pub mod PeripheralSteps
 pub mod Reasons
 pub mod Refusals
+pub mod ResetGuards
 pub mod StateLayout

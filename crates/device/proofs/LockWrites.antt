@@ -30,6 +30,7 @@ use Rattle.risaf.specs.Port as risaf
 use Rattle.risaf.specs.Port.{portIn, lockedOf, wordIn, wordWritten}
 use Rattle.risaf.specs.Rows.{ofHead, ofBase, ofSub, rowOf}
 use Rattle.risaf.specs.declared.contents.Guard.{Guard}
+use Rattle.risaf.specs.declared.guards.Shape.{Shape}
 use Rattle.risaf.specs.declared.registers.Head.{Head}
 use Rattle.risaf.specs.declared.registers.Head.the-variants.{Cr, Iasr, Iacr, Iaesr, Iaddr}
 use Rattle.risaf.specs.declared.registers.BaseField.{BaseField}
@@ -171,9 +172,9 @@ lockless : {w : List ℕ} {place v : ℕ} → (place ≡ crAt → ⊥) → ((x p
 lockless head region = record { cr = λ e. absurd (head e); regions = λ x p e. absurd (region x p e) }
 
 -- a write that no lock stops
-module _ (w : List ℕ) (value : ℕ) (secure : Bool) where
+module _ (granule : ℕ) (w : List ℕ) (value : ℕ) (secure : Bool) where
   abbrev RowHeld : Row → Type 0
-  RowHeld row = lockedOf (row .lock) (portIn w row) ≡ false → PlaceHeld w (row .place) (wordWritten row (portIn w row) value secure)
+  RowHeld row = lockedOf (row .lock) (portIn w row) ≡ false → PlaceHeld w (row .place) (wordWritten granule row (portIn w row) value secure)
 
   head-held : (head : Head) → RowHeld (ofHead head)
   unfolding ofHead wordIn portIn
@@ -234,16 +235,17 @@ done-free c value v e =
     (passed (c .aligned) (Rejected Misaligned) _ v (lit≤ tt)
     (passed (c .present) (Rejected NoSuch) _ v (lit≤ tt) e)))))))
 
-pub guard-written : (there : Bool) (g : Guard) (reg : GuardRegister) (q : Request) (v : ℕ)
-    → risaf.answerOf there (rowOf reg) (portIn (guardWords g) (rowOf reg)) q ≡ Done v → GuardHeld g (guardWritten (rowOf reg) q g)
+pub guard-written : (shape : Shape) (g : Guard) (reg : GuardRegister) (q : Request) (v : ℕ)
+    → risaf.answerOf shape (rowOf reg) (portIn (guardWords g) (rowOf reg)) q ≡ Done v
+    → GuardHeld g (guardWritten (shape .granule) (rowOf reg) q g)
 unfolding risaf.answerOf risaf.checksOf
-guard-written there g reg q v e =
+guard-written shape g reg q v e =
     let row = rowOf reg in
     let p = portIn (guardWords g) row in
     let locked = lockedOf (row .lock) p in
-    let free = done-free (risaf.checksOf there row p q) _ v e in
+    let free = done-free (risaf.checksOf shape row p q) _ v e in
     cond-by (GuardHeld g) (q .write) _ g
     (λ w.
     rw w (word-stored g (row .place) _
-    (row-held (guardWords g) (q .value) (q .secure) reg (not-true locked (sym (ap (λ (b : Bool). not b || not locked) w) ∙ free)))))
+    (row-held (shape .granule) (guardWords g) (q .value) (q .secure) reg (not-true locked (sym (ap (λ (b : Bool). not b || not locked) w) ∙ free)))))
     (guard-still g)

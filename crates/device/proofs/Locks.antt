@@ -1,6 +1,6 @@
 -- Locks hold: document 01, "A lock bit is set by 1 and not cleared by 0; only reset clears it".
 use mathlib.Core.Bool.{true, false, true≢false}
-use mathlib.Core.List.{List, [], _∷_}
+use mathlib.Core.List.{List, [], _∷_, map}
 use mathlib.Core.Path.{_≡_, refl, sym, ap, _∙_, subst}
 use Prim.Native.Nat.{ℕ, zero, suc, _+_, _*_, _^_, _<_}
 use native.Mathlib.Decide.{decLt}
@@ -17,7 +17,7 @@ use Rattle.rifsc.specs.Contents as rifsc-contents
 use Rattle.rifsc.specs.Registers.{ppsr}
 use Rattle.risaf.specs.Contents as risaf-contents
 use Rattle.risaf.specs.Contents.{guardFrom, regionReset, regionsReset}
-use Rattle.risaf.specs.Guards.{guardCount, shapeOf}
+use Rattle.risaf.specs.Guards.{GuardRow, guards, shapeOf}
 use Rattle.risaf.specs.Port as risaf
 use Rattle.risaf.specs.Registers.{registerAt}
 use Rattle.risaf.specs.declared.contents.Guard.{Guard}
@@ -84,7 +84,7 @@ held-register Rifsc q s v d = record { rifsc = rifsc-written (s .rifsc) _ q; gua
 held-register Iac q s v d = still s
 held-register (Risaf n) q s v d =
     let shape = shapeOf (n .0) in
-    held-guard s (n .0) _ (guard-written (shape .there) (guardOf s (n .0)) (registerAt (shape .regions) (q .offset)) q v d)
+    held-guard s (n .0) _ (guard-written shape (guardOf s (n .0)) (registerAt (shape .regions) (q .offset)) q v d)
 
 held-effect : (e : Event) (s : State) (v : ℕ) → NotReset e → step e s .answer ≡ Done v → Held s (effect e s)
 unfolding effect step
@@ -144,24 +144,35 @@ replicated P zero i a d p q = q
 replicated P (suc n) zero a d p q = p
 replicated P (suc n) (suc i) a d p q = replicated P n i a d p q
 
+-- what holds of every row of a table as it is made, and past its end, holds at every place
+made : {A B : Type 0} (P : B → Type 0) (f : A → B) (l : List A) (i : ℕ) (d : B) → ((a : A) → P (f a)) → P d → P (getD (map f l) i d)
+made P f [] i d p q = q
+made P f (a ∷ l) zero d p q = p a
+made P f (a ∷ l) (suc i) d p q = made P f l i d p q
+
 -- every subregionWords-th word of the regions is a CFGR or lies past the end
-cfgr-reset : (n k : ℕ) → getD (regionsReset n) (subregionWords * k) 0 ≡ 0
-cfgr-reset zero k = refl
-cfgr-reset (suc n) zero = refl
-cfgr-reset (suc n) (suc zero) = refl
-cfgr-reset (suc n) (suc (suc zero)) = refl
-cfgr-reset (suc n) (suc (suc (suc k))) =
+cfgr-reset : (granule n k : ℕ) → getD (regionsReset granule n) (subregionWords * k) 0 ≡ 0
+cfgr-reset granule zero k = refl
+cfgr-reset granule (suc n) zero = refl
+cfgr-reset granule (suc n) (suc zero) = refl
+cfgr-reset granule (suc n) (suc (suc zero)) = refl
+cfgr-reset granule (suc n) (suc (suc (suc k))) =
     let e : subregionWords * suc (suc (suc k)) ≡ regionWords + subregionWords * k = omega arith in
-    rw e (getD-append-add regionReset (regionsReset n) (subregionWords * k) 0 ∙ cfgr-reset n k)
+    rw e (getD-append-add (regionReset granule) (regionsReset granule n) (subregionWords * k) 0 ∙ cfgr-reset granule n k)
+
+abbrev guardReset : GuardRow → Guard
+guardReset row = risaf-contents.reset (row .granule)
 
 pub reset-clears : (l : Lock) (s : State) → isSet l (step Reset s .next) ≡ false
 unfolding isSet step resetState guardOf rifsc-contents.reset risaf-contents.reset
 reset-clears glock s = refl
 reset-clears rimcLock s = refl
 reset-clears (rlock x i) s = replicated (λ w. bit w i ≡ false) (length (rifsc-contents.reset .rcfglockr)) x 0 0 (bit-zero i) (bit-zero i)
-reset-clears (guardLock n) s = replicated (λ (g : Guard). bit (g .cr) 0 ≡ false) guardCount (shapeOf n .place) _ _ refl refl
+reset-clears (guardLock n) s = made (λ (g : Guard). bit (g .cr) 0 ≡ false) guardReset guards (shapeOf n .place) (guardFrom []) (λ row. refl) refl
 reset-clears (subLock n x p) s =
     let e : sub x p ≡ subregionWords * (3 * x + 1 + p) = omega arith in
-    replicated (λ (g : Guard). bit (getD (g .regions) (sub x p) 0) 1 ≡ false) guardCount (shapeOf n .place) _ _
-    (ap (λ (w : ℕ). bit w 1) (ap (λ (k : ℕ). getD (regionsReset mostRegions) k 0) e ∙ cfgr-reset mostRegions (3 * x + 1 + p)))
+    made (λ (g : Guard). bit (getD (g .regions) (sub x p) 0) 1 ≡ false) guardReset guards (shapeOf n .place) (guardFrom [])
+    (λ row.
+    ap (λ (w : ℕ). bit w 1)
+    (ap (λ (k : ℕ). getD (regionsReset (row .granule) mostRegions) k 0) e ∙ cfgr-reset (row .granule) mostRegions (3 * x + 1 + p)))
     refl

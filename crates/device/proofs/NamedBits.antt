@@ -63,7 +63,7 @@ module _ {s : State} (own : Alike Kept namedState s s) where
   register-kept (Risaf n) q =
       let shape = shapeOf (n .0) in
       settled-kept (registerStep (Risaf n) q s .answer) (shape .flag) _
-      (guard-kept (n .0) _ (risaf.stepped-kept (guards-have (n .0)) (own-guard (n .0)) (shape .there) q))
+      (guard-kept (n .0) _ (risaf.stepped-kept shape (guards-have (n .0)) (own-guard (n .0)) q))
 
   memory-next : (there : Bool) (n o width : ℕ) (k : Kind) → Near (memoryStep there n o width k s .next)
   unfolding memoryStep

@@ -92,7 +92,7 @@ module _ {s s′ : State} (same : Alike Same namedState s s′) where
       settled-same iacFlag (o .0) (record { rifsc = same .rifsc; iac = o .1; guards = same .guards })
   register-same (Risaf n) q =
       let shape = shapeOf (n .0) in
-      let o = risaf.stepped-same (guards-have (n .0)) (same-guard (n .0)) (shape .there) q in
+      let o = risaf.stepped-same shape (guards-have (n .0)) (same-guard (n .0)) q in
       settled-same (shape .flag) (o .0) (with-guard (n .0) same (o .1))
 
   memory-both : (there : Bool) (n o width : ℕ) (k : Kind) → Both (memoryStep there n o width k s) (memoryStep there n o width k s′)

@@ -8,6 +8,7 @@ use native.Mathlib.Omega.{arith}
 use borrow.Author.Tests.{ltb-true}
 use lib.Dec.{eqb, lit≤}
 use Rattle.access.specs.Answer.{numberOf, valueOf}
+use Rattle.access.specs.Bus.{heard}
 use Rattle.access.specs.Checks.{unless}
 use Rattle.access.specs.declared.answer.Answer.{Answer}
 use Rattle.access.specs.declared.answer.Answer.the-variants.{Done, Refused, Rejected}
@@ -50,7 +51,7 @@ module _ (s : State) (a : MemoryAccess) where
   answer = step (Memory a) s .answer
 
   abbrev verdict : Verdict
-  verdict = decided (guardOf s (a .guard .0) .regions) (shapeOf (a .guard .0) .regions) (a .offset) (a .kind)
+  verdict = decided (shapeOf (a .guard .0) .bus) (guardOf s (a .guard .0) .regions) (shapeOf (a .guard .0) .regions) (a .offset) (a .kind)
 
   answer-is : (P : Answer → Type 0) → P (Rejected NoSuch) → P (Rejected Misaligned) → P (Rejected Outside) → P (ruled verdict) → P answer
   unfolding step memoryStep memoryStepped
@@ -149,7 +150,7 @@ module _ (e : Event) (s : State) (a : MemoryAccess) (is : IsAccess e s a) where
       → numberOf (step (Memory (withKind k a)) s .answer) ≡ 0 → ⊥
   security-stays h v k same granted =
       let f : testsAt s a .security ≡ false = subst (λ (r : ℕ). FirstFails r (testsAt s a)) v (refused-for h) in
-      true≢false (sym (passes-all s (withKind k a) granted .0) ∙ security-by _ _ (a .offset) k (a .kind) same ∙ f)
+      true≢false (sym (passes-all s (withKind k a) granted .0) ∙ security-by (shapeOf (a .guard .0) .bus) _ _ (a .offset) (heard (shapeOf (a .guard .0) .bus) k) (heard (shapeOf (a .guard .0) .bus) (a .kind)) same ∙ f)
 
   -- refused for 2, it is not granted in the other direction
   pub privilege-stays : numberOf (step e s .answer) ≡ 1 → valueOf (step e s .answer) ≡ 2 → (write : Bool)
@@ -157,4 +158,4 @@ module _ (e : Event) (s : State) (a : MemoryAccess) (is : IsAccess e s a) where
   privilege-stays h v write granted =
       let k = withDirection write (a .kind) in
       let f : FirstFails 2 (testsAt s a) = subst (λ (r : ℕ). FirstFails r (testsAt s a)) v (refused-for h) in
-      true≢false (sym (passes-all s (withKind k a) granted .1) ∙ privilege-by _ _ (a .offset) k (a .kind) refl refl ∙ f .1)
+      true≢false (sym (passes-all s (withKind k a) granted .1) ∙ privilege-by (shapeOf (a .guard .0) .bus) _ _ (a .offset) (heard (shapeOf (a .guard .0) .bus) k) (heard (shapeOf (a .guard .0) .bus) (a .kind)) refl refl ∙ f .1)

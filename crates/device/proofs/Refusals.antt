@@ -7,6 +7,7 @@ use native.Mathlib.Omega.{arith}
 use lib.Seq.{map-set-same}
 use Rattle.words.specs.Bit.{bit}
 use Rattle.access.specs.Answer.{numberOf, left}
+use Rattle.access.specs.Bus.{heard}
 use Rattle.access.specs.declared.answer.Answer.{Answer}
 use Rattle.access.specs.declared.answer.Answer.the-variants.{Done, Refused, Rejected}
 use Rattle.access.specs.declared.flag.Flag.{Flag}
@@ -100,7 +101,7 @@ fault-exactly o k g = by (bit (g .iasr) 1) refl
     by false e = rw e refl
 
 memory-exactly : (n o : ℕ) (k : Kind) (s : State) → memoryRefused n o k s ≡ memoryLeft n o k s
-memory-exactly n o k s = ap (λ (g : Guard). flagged (shapeOf n .flag) (withGuard s n g)) (fault-exactly o k (guardOf s n))
+memory-exactly n o k s = ap (λ (g : Guard). flagged (shapeOf n .flag) (withGuard s n g)) (fault-exactly o (heard (shapeOf n .bus) k) (guardOf s n))
 
 all-exactly : (e : Event) (s : State) → refused e s ≡ refusedState e s
 unfolding refused refusedState

@@ -3,6 +3,7 @@ use mathlib.Core.Bool.{Bool, true, false}
 use mathlib.Core.Path.{_≡_}
 use Prim.Native.Nat.{ℕ, zero, suc}
 use Rattle.access.specs.Answer.{numberOf}
+use Rattle.access.specs.Bus.{heard}
 use Rattle.access.specs.declared.kind.Kind.{Kind}
 use Rattle.regions.specs.Rules.{Tests, tests}
 use Rattle.risaf.specs.Guards.{shapeOf}
@@ -25,9 +26,11 @@ IsAccess (Master b) s a = madeAs b (carriedBy b s) ≡ Memory a
 abbrev pub Reaches : Event → State → Type 0
 Reaches e s = (numberOf (step e s .answer) ≡ 4 → ⊥) × (numberOf (step e s .answer) ≡ 5 → ⊥) × (numberOf (step e s .answer) ≡ 6 → ⊥)
 
--- the tests of the rule that governs there
+-- the tests of the rule that governs there, of the asking as the guard's bus hears it
 abbrev pub testsAt : State → MemoryAccess → Tests
-testsAt s a = tests (guardOf s (a .guard .0) .regions) (shapeOf (a .guard .0) .regions) (a .offset) (a .kind)
+testsAt s a =
+    let shape = shapeOf (a .guard .0) in
+    tests (shape .bus) (guardOf s (a .guard .0) .regions) (shape .regions) (a .offset) (heard (shape .bus) (a .kind))
 
 -- no test fails
 abbrev pub NoneFails : Tests → Type 0

@@ -2,6 +2,7 @@
 use mathlib.Core.Bool.{true, cond}
 use Prim.Native.Nat.{ℕ}
 use Rattle.words.specs.Bit.{bit, merged, withBit}
+use Rattle.access.specs.Bus.{heard}
 use Rattle.access.specs.declared.kind.Kind.{Kind}
 use Rattle.rifsc.specs.Masters.{attributesOf, carried}
 use Rattle.risaf.specs.Guards.{shapeOf}
@@ -37,8 +38,9 @@ registerLeft Rifsc s = flagged rifscFlag s
 registerLeft Iac s = flagged iacFlag s
 registerLeft (Risaf n) s = flagged (shapeOf (n .0) .flag) (withGuard s (n .0) (registerFault (guardOf s (n .0))))
 
+-- IAESR is filled with the asking as the guard's bus hears it
 abbrev pub memoryLeft : ℕ → ℕ → Kind → State → State
-memoryLeft n o k s = flagged (shapeOf n .flag) (withGuard s n (memoryFault o k (guardOf s n)))
+memoryLeft n o k s = flagged (shapeOf n .flag) (withGuard s n (memoryFault o (heard (shapeOf n .bus) k) (guardOf s n)))
 
 -- reset is never refused
 unfoldable pub refusedState : Event → State → State

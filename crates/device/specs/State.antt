@@ -1,7 +1,7 @@
 -- The state of the device: the controller, the illegal access controller and the guards.
-use mathlib.Core.List.{List, []}
+use mathlib.Core.List.{List, [], map}
 use Prim.Native.Nat.{ℕ}
-use lib.ListN.{getD, set, replicate}
+use lib.ListN.{getD, set}
 use Rattle.access.specs.declared.flag.Flag.{Flag}
 use Rattle.rifsc.specs.declared.contents.Rifsc.{Rifsc}
 use Rattle.rifsc.specs.Contents as rifsc
@@ -10,7 +10,7 @@ use Rattle.iac.specs.Contents as iac
 use Rattle.iac.specs.Flags.{raise}
 use Rattle.risaf.specs.declared.contents.Guard.{Guard}
 use Rattle.risaf.specs.Contents as risaf
-use Rattle.risaf.specs.Guards.{guardCount, shapeOf}
+use Rattle.risaf.specs.Guards.{GuardRow, guards, shapeOf}
 
 pub record State : Type 0 where
   pub rifsc : Rifsc
@@ -45,4 +45,9 @@ abbrev pub flagged : Flag → State → State
 flagged i s = withIac s (raise i (s .iac))
 
 unfoldable pub resetState : State
-resetState = record { rifsc = rifsc.reset; iac = iac.reset; guards = replicate guardCount risaf.reset }
+resetState =
+    record {
+      rifsc = rifsc.reset;
+      iac = iac.reset;
+      guards = map (λ (g : GuardRow). risaf.reset (g .granule)) guards;
+    }

@@ -50,7 +50,7 @@ registerStep Iac q s =
     settled (o .answer) iacFlag s (withIac s (o .next))
 registerStep (Risaf n) q s =
     let shape = shapeOf (n .0) in
-    let o = risaf.stepped (shape .there) (shape .regions) (guardOf s (n .0)) q in
+    let o = risaf.stepped shape (guardOf s (n .0)) q in
     settled (o .answer) (shape .flag) s (withGuard s (n .0) (o .next))
 
 -- ---- a peripheral access; refused, it raises the peripheral's index

@@ -30,11 +30,13 @@ pub(crate) fn access_memory(
     let Answer::Done(_) = checked else {
         return checked;
     };
-    let verdict = regions::decide(region_words(state, shape.place), shape.regions, o, k);
+    let bus = shape.bus;
+    let verdict = regions::decide(bus, region_words(state, shape.place), shape.regions, o, k);
     if verdict.reason == NO_REASON {
         return Answer::Done(verdict.rule);
     }
-    let faults = load_faults(state, shape.place).recorded(o, k);
+    let heard = bus.hears(k);
+    let faults = load_faults(state, shape.place).recorded(o, heard);
     store_faults(state, shape.place, faults);
     raise(state, shape.flag);
     Answer::Refused(verdict.reason)

@@ -79,7 +79,7 @@ pub(crate) fn access_guard(state: &mut [u32], guard: GuardNumber, q: Request) ->
 {
     let shape = guard.shape();
     let row = risaf::row_at(shape.regions, q.offset);
-    let accessed = load_port(state, shape.place, row).access(shape.there, row, q);
+    let accessed = load_port(state, shape.place, row).access(shape, row, q);
     let answer = accessed.answer;
     let next = accessed.next;
     match answer {

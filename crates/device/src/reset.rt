@@ -4,22 +4,24 @@ use crate::blocks::store_rifsc;
 use crate::layout::GUARDS;
 use iac::Iac;
 use rifsc::Rifsc;
-use risaf::GUARD_COUNT;
+use risaf::GUARD_NUMBERS;
 use risaf::GUARD_WORDS;
+use risaf::GuardNumber;
 use risaf::HEAD_WORDS;
+ghost use mathlib.Core.Bool.{cond};
 ghost use mathlib.Core.Path.{_≡_};
 ghost use lib.ListN.{length};
 ghost use Prim.Native.Nat.{_<_};
 ghost use Rattle.risaf.specs.Contents.{guardFrom, guardSize, guardWords, reset as guardReset};
-ghost use Rattle.risaf.specs.Guards.{guardCount};
+ghost use Rattle.risaf.specs.Guards.{guardCount, isGuard, shapeOf};
 ghost use Rattle.device.specs.Layout.{stateOf, stateWords};
-ghost use Rattle.device.specs.State.{resetState, withGuardAt};
+ghost use Rattle.device.specs.State.{resetState, withGuard, withGuardAt};
 
-// A guard's words at reset.
-fn guard_words() -> [u32; GUARD_WORDS]
-    ensures { λ r. ⌜ r ≡ guardWords guardReset ⌝ }
+// The words at reset of a guard with this granule.
+fn guard_words(granule: u32) -> [u32; GUARD_WORDS]
+    ensures { λ r. ⌜ r ≡ guardWords (guardReset granule) ⌝ }
 {
-    let guard = risaf::Guard::reset();
+    let guard = risaf::Guard::reset(granule);
     let regions = guard.regions;
     let mut words = [0u32; GUARD_WORDS];
     copy_words(&mut words, HEAD_WORDS, &regions);
@@ -34,6 +36,18 @@ fn store_guard(state: &mut [u32], place: usize, words: &[u32; GUARD_WORDS])
     copy_words(state, GUARDS + GUARD_WORDS * place, words);
 }
 
+// Every word of a guard its reset value, if there is one with this number.
+fn reset_guard(state: &mut [u32], guard: GuardNumber)
+    requires { ⌜ length (now state) ≡ stateWords ⌝ }
+    ensures { λ _. ⌜ stateOf (now (state .exit)) ≡ cond (isGuard (guard .0)) (withGuard (stateOf (now (state .entry))) (guard .0) (guardReset (shapeOf (guard .0) .granule))) (stateOf (now (state .entry))) ⌝ }
+{
+    let shape = guard.shape();
+    if shape.there {
+        let words = guard_words(shape.granule);
+        store_guard(state, shape.place, &words);
+    }
+}
+
 // Every word its reset value.
 pub(crate) fn reset(state: &mut [u32])
     requires { ⌜ length (now state) ≡ stateWords ⌝ }
@@ -41,8 +55,7 @@ pub(crate) fn reset(state: &mut [u32])
 {
     store_rifsc(state, Rifsc::reset());
     store_iac(state, Iac::reset());
-    let guard = guard_words();
-    for i in 0..GUARD_COUNT {
-        store_guard(state, i, &guard);
+    for n in 0..GUARD_NUMBERS {
+        reset_guard(state, GuardNumber(n));
     }
 }

@@ -29,18 +29,18 @@ done false rule reason = refl
 
 module _ (s : State) (n x : ℕ) (hn : isGuard n ≡ true) (hx : x < shapeOf n .window) where
   module _ (width : ℕ) (hw : isWidth width ≡ true) (ha : x % width ≡ 0) where
-    grants-decided : (k : Kind) → k .cid .0 ≤ 7 → grantsAt s n x width k ≡ granted (decided (guardOf s n .regions) (shapeOf n .regions) x k)
+    grants-decided : (k : Kind) → k .cid .0 ≤ 7 → grantsAt s n x width k ≡ granted (decided (shapeOf n .bus) (guardOf s n .regions) (shapeOf n .regions) x k)
     unfolding grantsAt step memoryStep memoryStepped memoryAnswer memoryChecks answeredWith reachedWith
     grants-decided k hk =
-        let v = decided (guardOf s n .regions) (shapeOf n .regions) x k in
+        let v = decided (shapeOf n .bus) (guardOf s n .regions) (shapeOf n .regions) x k in
         simp (hn, le-leb (k .cid .0) 7 hk, hw, eq-eqb (x % width) 0 ha, lt-ltb x (shapeOf n .window) hx) (done (granted v) (v .rule) (v .reason))
 
     -- each bit is the answer to its kind of asking
     pub bit-grants : (k : Kind) → k .cid .0 ≤ 7 → bit (rightsOf s n x) (rightsBit k) ≡ grantsAt s n x width k
     unfolding rightsOf
-    bit-grants k hk = rights-bit (guardOf s n .regions) (shapeOf n .regions) x k hk ∙ sym (grants-decided k hk)
+    bit-grants k hk = rights-bit (shapeOf n .bus) (guardOf s n .regions) (shapeOf n .regions) x k hk ∙ sym (grants-decided k hk)
 
-  byte-decided : (k : Kind) → k .cid .0 ≤ 7 → grantsAt s n x 1 k ≡ granted (decided (guardOf s n .regions) (shapeOf n .regions) x k)
+  byte-decided : (k : Kind) → k .cid .0 ≤ 7 → grantsAt s n x 1 k ≡ granted (decided (shapeOf n .bus) (guardOf s n .regions) (shapeOf n .regions) x k)
   byte-decided = grants-decided 1 refl (omega arith)
 
 -- where the answers to all accesses of one byte are the same, so is the rights word

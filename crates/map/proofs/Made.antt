@@ -27,13 +27,13 @@ module _ (m : List ℕ) (n : ℕ) (l : List ℕ) (hm : length m ≡ stateWords) 
       let k : shape .regions ≤ mostRegions = rw es (small n .0) in
       (k, rw ew (omega (arith, guard-regions-length m n hm)), rw es (small n .1), hl)
 
-  rows : mapOf (rightsWord w (shape .regions)) (shape .window) ≡ rowsOf (stateOf m) n
+  rows : mapOf (rightsWord (shape .bus) w (shape .regions)) (shape .window) ≡ rowsOf (stateOf m) n
   unfolding rowsOf rightsOf
   rows = rw (ew, es)
 
   -- what it makes
-  pub made : {count : ℕ} {l′ : List ℕ} → count ≡ size (mapOf (rightsWord w (shape .regions)) (shape .window))
-      → l′ ≡ filled (mapOf (rightsWord w (shape .regions)) (shape .window)) l
+  pub made : {count : ℕ} {l′ : List ℕ} → count ≡ size (mapOf (rightsWord (shape .bus) w (shape .regions)) (shape .window))
+      → l′ ≡ filled (mapOf (rightsWord (shape .bus) w (shape .regions)) (shape .window)) l
       → (Done 0 ≡ fillAnswer m n l) × ((rowNumbers * count ≡ fillUsed m n l) × (l′ ≡ fillNumbers m n l))
   unfolding fillAnswer fillUsed fillNumbers
   made ec el =

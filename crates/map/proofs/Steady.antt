@@ -7,6 +7,7 @@ use native.Mathlib.Decide.{decLt}
 use native.Mathlib.Omega.{arith}
 use lib.ListN.{length, getD}
 use Rattle.words.specs.Bit.{bit}
+use Rattle.access.specs.declared.bus.Bus.{Bus}
 use Rattle.risaf.specs.Guards.{shapeOf}
 use Rattle.regions.specs.Words.{base, sub, enableBit, mostRegions}
 use Rattle.regions.specs.Rights.{rightsWord}
@@ -41,8 +42,8 @@ module _ (w : List ℕ) (o o′ : ℕ) where
           let e : x ≡ n = omega arith in
           rw e (record { own = covers-same (base n) (a .1 .1 .0); subs = λ c. (covers-same (sub n 0) (a .1 .0), covers-same (sub n 1) (a .0)) })
 
-pub steady : (w : List ℕ) (n : ℕ) → Steady (rightsWord w n) (boundsOf (pairsOf w n))
-steady w n = steady-pairs (rightsWord w n) (pairsOf w n) (λ x y a. rights-by-cover w x y n (pairs-alike w x y n a))
+pub steady : (bus : Bus) (w : List ℕ) (n : ℕ) → Steady (rightsWord bus w n) (boundsOf (pairsOf w n))
+steady bus w n = steady-pairs (rightsWord bus w n) (pairsOf w n) (λ x y a. rights-by-cover w x y bus n (pairs-alike w x y n a))
 
 -- ---- how many boundaries there are
 
@@ -54,8 +55,8 @@ bounds-most w n h = omega (arith, length-bounds (pairsOf w n), three n)
     three zero = refl
     three (suc x) = omega (arith, three x)
 
-pub size-most : (w : List ℕ) (n window : ℕ) → n ≤ mostRegions → size (mapOf (rightsWord w n) window) ≤ mostRows
-size-most w n window h = omega (arith, rows-most (steady w n) window, bounds-most w n h)
+pub size-most : (bus : Bus) (w : List ℕ) (n window : ℕ) → n ≤ mostRegions → size (mapOf (rightsWord bus w n) window) ≤ mostRows
+size-most bus w n window h = omega (arith, rows-most (steady bus w n) window, bounds-most w n h)
 
 -- ---- the map of a guard
 
@@ -63,8 +64,8 @@ module _ (s : State) (n : ℕ) where
   -- as computed, boundary by boundary
   pub rows-swept : rowsOf s n ≡ sweptMap (rightsOf s n) (boundsOf (pairsOf (guardOf s n .regions) (shapeOf n .regions))) (shapeOf n .window)
   unfolding rowsOf rightsOf
-  rows-swept = sym (swept-is-map (steady (guardOf s n .regions) (shapeOf n .regions)) (shapeOf n .window))
+  rows-swept = sym (swept-is-map (steady (shapeOf n .bus) (guardOf s n .regions) (shapeOf n .regions)) (shapeOf n .window))
 
   pub guard-rows-most : size (rowsOf s n) ≤ mostRows
   unfolding rowsOf rightsOf
-  guard-rows-most = size-most (guardOf s n .regions) (shapeOf n .regions) (shapeOf n .window) (small n .0)
+  guard-rows-most = size-most (shapeOf n .bus) (guardOf s n .regions) (shapeOf n .regions) (shapeOf n .window) (small n .0)

@@ -6,6 +6,7 @@ use Prim.Native.Nat.{ℕ, zero, suc, _≤_, _<_}
 use native.Mathlib.Decide.{decLt}
 use native.Mathlib.Omega.{arith}
 use lib.ListN.{length}
+use Rattle.access.specs.declared.bus.Bus.{Bus}
 use Rattle.regions.specs.Ahead.{ahead, aheadIn}
 use Rattle.regions.specs.Rights.{rightsWord}
 use Rattle.regions.specs.Words.{base, mostRegions}
@@ -38,14 +39,14 @@ region-ends w (suc n) x h = by (decLt x n) (region-ends w n x)
         rw e ((inr (inr (inr (inr (inl refl)))), inr (inr (inr (inr (inr (inl refl)))))), (inr (inr (inl refl)), inr (inr (inr (inl refl)))), (inl refl, inr (inl refl)))
 
 -- the code's call
-pub turn : (w : List ℕ) (n window at : ℕ) {to : ℕ} → n ≤ mostRegions → base n ≤ length w → at < window → to ≡ aheadIn w n at window
-    → Turn (rightsWord w n) (bounds w n) window at to
-turn w n window at {to} hn hl h e =
+pub turn : (bus : Bus) (w : List ℕ) (n window at : ℕ) {to : ℕ} → n ≤ mostRegions → base n ≤ length w → at < window → to ≡ aheadIn w n at window
+    → Turn (rightsWord bus w n) (bounds w n) window at to
+turn bus w n window at {to} hn hl h e =
     let f = ahead-found {B = λ b. Among b (bounds w n)} w at n window (region-ends w n) in
-    rw (e ∙ ahead-enough w n at hn hl window)
+    rw (e ∙ ahead-enough bus w n at hn hl window)
     (record {
       past = f .above h;
       within = f .low;
-      stays = λ x l u. rights-stay w at x l n window u;
+      stays = λ x l u. rights-stay w at x l bus n window u;
       fewer = λ l. ⊎-elim (λ e. absurd (omega arith)) (λ m. among-fewer (bounds w n) at (ahead w n at window) m (f .above h)) (f .is);
     })

@@ -8,7 +8,7 @@ use Rattle.device.specs.State.{State, guardOf}
 
 -- the rights word of an offset at guard n
 unfoldable pub rightsOf : State → ℕ → ℕ → ℕ
-rightsOf s n o = rightsWord (guardOf s n .regions) (shapeOf n .regions) o
+rightsOf s n o = rightsWord (shapeOf n .bus) (guardOf s n .regions) (shapeOf n .regions) o
 
 -- the rows of the map of guard n
 unfoldable pub rowsOf : State → ℕ → Rows

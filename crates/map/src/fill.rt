@@ -1,4 +1,5 @@
 use access::Answer;
+use access::Bus;
 use access::Why;
 use device::STATE_WORDS;
 use device::region_words;
@@ -28,15 +29,15 @@ pub struct Filled {
 
 // The map of what n base regions give, over the front of lent memory, and its count of rows: from boundary to boundary, a span
 // with the rights at its start.
-fn sweep(w: &[u32], n: usize, window: u64, lent: &mut [u64]) -> usize
+fn sweep(bus: Bus, w: &[u32], n: usize, window: u64, lent: &mut [u64]) -> usize
     requires { ⌜ (n ≤ mostRegions) × (base n ≤ length (now w)) × (window ≤ 2 ^ 32) × (leastRoom ≤ length (now lent)) ⌝ }
-    ensures { λ r. ⌜ r ≡ size (mapOf (rightsWord (now (w .entry)) n) window) ⌝ }
-    ensures { λ r. ⌜ now (lent .exit) ≡ filled (mapOf (rightsWord (now (w .entry)) n) window) (now (lent .entry)) ⌝ }
+    ensures { λ r. ⌜ r ≡ size (mapOf (rightsWord bus (now (w .entry)) n) window) ⌝ }
+    ensures { λ r. ⌜ now (lent .exit) ≡ filled (mapOf (rightsWord bus (now (w .entry)) n) window) (now (lent .entry)) ⌝ }
 {
     let mut at: u64 = 0;
     let mut count: usize = 0;
     while at < window {
-        let stretch = stretch_at(w, n, at as u32, window);
+        let stretch = stretch_at(bus, w, n, at as u32, window);
         count = spans::put(lent, count, at, stretch.to - 1, stretch.rights);
         at = stretch.to;
     }
@@ -69,7 +70,8 @@ pub fn fill(state: &[u32], guard: GuardNumber, buffer: &mut [u64]) -> Filled
         };
     }
     let w = region_words(state, shape.place);
-    let count = sweep(w, shape.regions, shape.window, buffer);
+    let bus = shape.bus;
+    let count = sweep(bus, w, shape.regions, shape.window, buffer);
     let used = ROW_NUMBERS * count;
     Filled {
         answer: Answer::Done(0),

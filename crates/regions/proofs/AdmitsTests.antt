@@ -12,13 +12,17 @@ use borrow.Author.Tests.{not-true, not-false}
 use Rattle.words.specs.Bit.{bit}
 use Rattle.words.proofs.Laws.{bit-ones, bit-pow, bit-shr, bit-word, bit-zero}
 use Rattle.words.proofs.Ops.{bit-or}
+use Rattle.access.specs.Bus.{heard}
 use Rattle.access.specs.Fold.{any, all}
+use Rattle.access.specs.declared.bus.Bus.{Bus}
+use Rattle.access.specs.declared.bus.Bus.the-variants.{Axi, Ahb}
 use Rattle.access.specs.declared.kind.Kind.{Kind}
 use Rattle.access.proofs.Folds.{any-same, all-same}
+use Rattle.access.proofs.Heard.{heard-cid}
 use Rattle.regions.specs.Words.{base, sub, cidcfgrAt, enableBit, secBit, privcBit, rdenBit, wrenBit, readBit, writeBit}
-use Rattle.regions.specs.Rules.{Tests, reasonOf, covers, counts, everyBase, srcid, tests0, tests1, tests2, opens, someSub, counted, covered, tests, decided}
+use Rattle.regions.specs.Rules.{Tests, reasonOf, covers, everyBase, srcid, isDefault, tests0, tests1, tests2, opens, someSub, counted, covered, ruleOf, tests, decided}
 use Rattle.regions.specs.Masks.{masks, Passed, Next}
-use Rattle.regions.specs.Admits.{byDefault, byBases, bySubs, byRegions, byMasks, admitted, openTo, testsOf, verdictOf}
+use Rattle.regions.specs.Admits.{defaults, byDefault, byBases, bySubs, byRegions, byMasks, admitted, allAsZero, asHeard, admitsSecurity, openTo, testsOf, verdictOf}
 use Rattle.regions.specs.declared.admits.Admits.{Admits}
 use Rattle.regions.specs.declared.masks.Masks.{Masks}
 use Rattle.regions.specs.declared.rules.Verdict.{Verdict}
@@ -69,9 +73,9 @@ module _ (w : List ℕ) (n o : ℕ) (k : Kind) (h : k .cid .0 ≤ 7) where
 
   -- ---- rule 0
 
-  default-tests : testsOf byDefault k ≡ tests0 k
+  default-tests : (bus : Bus) → testsOf (byDefault bus) k ≡ tests0 bus k
   unfolding testsOf byDefault
-  default-tests = tests-same (security (k .secure)) (privilege (k .privileged)) (compartment (k .write))
+  default-tests bus = tests-same (security (k .secure)) (privilege (k .privileged)) (compartment bus (k .write))
     where
       security : (s : Bool) → cond s true false ≡ s
       security true = refl
@@ -81,9 +85,11 @@ module _ (w : List ℕ) (n o : ℕ) (k : Kind) (h : k .cid .0 ≤ 7) where
       privilege true = refl
       privilege false = ap not (bit-ones 8 c small)
 
-      compartment : (d : Bool) → bit (cond d 0x82 0x82) c ≡ (eqb c 1 || eqb c 7)
-      compartment true = bit-word 8 (λ i. eqb i 1 || eqb i 7) c small
-      compartment false = bit-word 8 (λ i. eqb i 1 || eqb i 7) c small
+      compartment : (bus : Bus) (d : Bool) → bit (cond d (defaults bus) (defaults bus)) c ≡ isDefault bus k
+      compartment Axi true = bit-word 8 (λ i. eqb i 1 || eqb i 7) c small
+      compartment Axi false = bit-word 8 (λ i. eqb i 1 || eqb i 7) c small
+      compartment Ahb true = bit-ones 8 c small
+      compartment Ahb false = bit-ones 8 c small
 
   -- ---- rule 1
 
@@ -175,22 +181,22 @@ module _ (w : List ℕ) (o : ℕ) where
       rw (none-counted n (d .0), d .1) refl
 
 -- what the code's search finds
-module _ (w : List ℕ) (n o : ℕ) {r : ℕ} (next : Next w o 0 n r) where
-  pub none-found : r ≡ n → byDefault ≡ admitted w n o
+module _ (bus : Bus) (w : List ℕ) (n o : ℕ) {r : ℕ} (next : Next w o 0 n r) where
+  pub none-found : r ≡ n → byDefault bus ≡ admitted bus w n o
   unfolding admitted
   none-found e = rw (none-covered w o n (λ y a b. next .passed y a (omega (arith, e, b)))) refl
 
-  pub one-found : (r ≡ n → ⊥) → byRegions (masks w n o) ≡ admitted w n o
+  pub one-found : (r ≡ n → ⊥) → byRegions (masks w n o) ≡ admitted bus w n o
   unfolding admitted
   one-found d =
       let l : r < n = omega (arith, next .high, d) in
       rw (some-covered w o n r l (next .found l)) refl
 
 -- what its one pass over all base regions finds: one that covers has its enable in CFGR
-pub masks-found : (w : List ℕ) (n o : ℕ) → byMasks (masks w n o) ≡ admitted w n o
+pub masks-found : (bus : Bus) (w : List ℕ) (n o : ℕ) → byMasks bus (masks w n o) ≡ admitted bus w n o
 unfolding byMasks admitted
-masks-found w n o =
-    ap (λ (c : Bool). cond c (byRegions (masks w n o)) byDefault)
+masks-found bus w n o =
+    ap (λ (c : Bool). cond c (byRegions (masks w n o)) (byDefault bus))
     (some-bit w o n enableBit ∙ any-same n _ _ (λ x h. own (bit (getD w (base x) 0) enableBit) _))
   where
     own : (e i : Bool) → ((e && i) && e) ≡ (e && i)
@@ -200,9 +206,11 @@ masks-found w n o =
 
 -- ---- the theorem
 
-pub verdict-is : (w : List ℕ) (n o : ℕ) (k : Kind) → k .cid .0 ≤ 7 → verdictOf (admitted w n o) k ≡ decided w n o k
-unfolding verdictOf admitted byRegions byDefault byBases bySubs decided tests
-verdict-is w n o k h = by (covered w n o) refl (counted w n o) refl
+-- of a kind of asking, as heard
+tests-is : (bus : Bus) (w : List ℕ) (n o : ℕ) (k : Kind) → k .cid .0 ≤ 7
+    → verdictOf (admitted bus w n o) k ≡ record { rule = ruleOf w n o; reason = reasonOf (tests bus w n o k) }
+unfolding verdictOf admitted byRegions byDefault byBases bySubs tests
+tests-is bus w n o k h = by (covered w n o) refl (counted w n o) refl
   where
     -- of either rule
     verdict : (a : Admits) (r : ℕ) (t : Tests) → a .rule ≡ r → testsOf a k ≡ t
@@ -210,8 +218,8 @@ verdict-is w n o k h = by (covered w n o) refl (counted w n o) refl
     verdict a r t e f = ap₂ (λ (r : ℕ) (t : Tests). record { rule = r; reason = reasonOf t }) e f
 
     by : (d : Bool) → covered w n o ≡ d → (c : Bool) → counted w n o ≡ c
-        → verdictOf (cond d (cond (eqb (masks w n o .opens) 0) (byBases (masks w n o)) (bySubs (masks w n o))) byDefault) k
-        ≡ record { rule = cond c 2 (cond d 1 0); reason = reasonOf (cond c (tests2 w n o k) (cond d (tests1 w n o k) (tests0 k))) }
+        → verdictOf (cond d (cond (eqb (masks w n o .opens) 0) (byBases (masks w n o)) (bySubs (masks w n o))) (byDefault bus)) k
+        ≡ record { rule = cond c 2 (cond d 1 0); reason = reasonOf (cond c (tests2 w n o k) (cond d (tests1 w n o k) (tests0 bus k))) }
     by true e true f =
         ap (λ (b : Bool). verdictOf (cond b (byBases (masks w n o)) (bySubs (masks w n o))) k) (not-true (eqb (masks w n o .opens) 0) (counted-is w n o ∙ f))
         ∙ verdict (bySubs (masks w n o)) 2 (tests2 w n o k) refl (subs-tests w n o k h)
@@ -219,4 +227,28 @@ verdict-is w n o k h = by (covered w n o) refl (counted w n o) refl
         ap (λ (b : Bool). verdictOf (cond b (byBases (masks w n o)) (bySubs (masks w n o))) k) (not-false (eqb (masks w n o .opens) 0) (counted-is w n o ∙ f))
         ∙ verdict (byBases (masks w n o)) 1 (tests1 w n o k) refl (bases-tests w n o k h)
     by false e true f = absurd (true≢false (sym f ∙ none-counted w o n e))
-    by false e false f = verdict byDefault 0 (tests0 k) refl (default-tests w n o k h)
+    by false e false f = verdict (byDefault bus) 0 (tests0 bus k) refl (default-tests w n o k h bus)
+
+pub verdict-is : (bus : Bus) (w : List ℕ) (n o : ℕ) (k : Kind) → k .cid .0 ≤ 7
+    → verdictOf (admitted bus w n o) (heard bus k) ≡ decided bus w n o k
+unfolding decided
+verdict-is bus w n o k h = tests-is bus w n o (heard bus k) (heard-cid bus k h)
+
+-- the tests as the bus hears them, of a kind of asking
+pub as-heard : (bus : Bus) (a : Admits) (k : Kind) → k .cid .0 ≤ 7 → verdictOf (asHeard bus a) k ≡ verdictOf a (heard bus k)
+unfolding verdictOf testsOf asHeard
+as-heard Axi a k h = refl
+as-heard Ahb a k h =
+    ap (λ (t : Tests). record { rule = a .rule; reason = reasonOf t })
+    (tests-same {a = admitsSecurity a (k .secure)} refl (ap (λ (b : Bool). k .privileged || not b) (as-zero (a .closed))) (opened (k .write)))
+  where
+    as-zero : (x : ℕ) → bit (allAsZero x) (k .cid .0) ≡ bit x 0
+    as-zero x = go (bit x 0)
+      where
+        go : (b : Bool) → bit (cond b 0xff 0) (k .cid .0) ≡ b
+        go true = bit-ones 8 (k .cid .0) (omega (arith, h))
+        go false = bit-zero (k .cid .0)
+
+    opened : (d : Bool) → bit (cond d (allAsZero (a .writes)) (allAsZero (a .reads))) (k .cid .0) ≡ bit (cond d (a .writes) (a .reads)) 0
+    opened true = as-zero (a .writes)
+    opened false = as-zero (a .reads)

@@ -8,21 +8,22 @@ use native.Mathlib.Omega.{arith}
 use Rattle.words.specs.Bit.{bit}
 use Rattle.words.proofs.Laws.{bit-word}
 use Rattle.access.specs.Kind.{kindOf, rightsBit}
+use Rattle.access.specs.declared.bus.Bus.{Bus}
 use Rattle.access.specs.declared.kind.Kind.{Kind}
-use Rattle.regions.specs.Admits.{admitted, verdictOf, rightsFrom, byteAt, byteOf}
+use Rattle.regions.specs.Admits.{admitted, asHeard, verdictOf, rightsFrom, byteAt, byteOf}
 use Rattle.regions.specs.Rules.{decided, granted}
-use Rattle.regions.proofs.AdmitsTests.{verdict-is}
+use Rattle.regions.proofs.AdmitsTests.{verdict-is, as-heard}
 use Rattle.regions.proofs.RightsBits.{kind-place}
 
 -- what the code's tests say to a kind of asking
-abbrev says : List ℕ → ℕ → ℕ → Kind → Bool
-says w n o k = granted (verdictOf (admitted w n o) k)
+abbrev says : Bus → List ℕ → ℕ → ℕ → Kind → Bool
+says bus w n o k = granted (verdictOf (asHeard bus (admitted bus w n o)) k)
 
-pub byte-bit : (w : List ℕ) (n o : ℕ) (k : Kind) → k .cid .0 ≤ 7
-    → bit (byteOf (admitted w n o) (k .write) (k .privileged) (k .secure)) (k .cid .0) ≡ granted (decided w n o k)
+pub byte-bit : (bus : Bus) (w : List ℕ) (n o : ℕ) (k : Kind) → k .cid .0 ≤ 7
+    → bit (byteOf (asHeard bus (admitted bus w n o)) (k .write) (k .privileged) (k .secure)) (k .cid .0) ≡ granted (decided bus w n o k)
 unfolding rightsFrom
-byte-bit w n o k h =
+byte-bit bus w n o k h =
     let e : byteAt (k .write) (k .privileged) (k .secure) + k .cid .0 ≡ rightsBit k = omega arith in
-    bit-word 8 (λ i. says w n o (kindOf (byteAt (k .write) (k .privileged) (k .secure) + i))) (k .cid .0) (omega (arith, h))
-    ∙ ap (says w n o) (ap kindOf e ∙ kind-place k h)
-    ∙ ap granted (verdict-is w n o k h)
+    bit-word 8 (λ i. says bus w n o (kindOf (byteAt (k .write) (k .privileged) (k .secure) + i))) (k .cid .0) (omega (arith, h))
+    ∙ ap (says bus w n o) (ap kindOf e ∙ kind-place k h)
+    ∙ ap granted (as-heard bus (admitted bus w n o) k h ∙ verdict-is bus w n o k h)

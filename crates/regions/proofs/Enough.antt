@@ -5,23 +5,24 @@ use mathlib.Core.Path.{_≡_, ap, ap₂}
 use Prim.Native.Nat.{ℕ, _*_, _≤_}
 use lib.ListN.{length}
 use borrow.Author.Tests.{le-leb}
+use Rattle.access.specs.declared.bus.Bus.{Bus}
 use Rattle.access.specs.declared.kind.Kind.{Kind}
 use Rattle.regions.specs.Ahead.{ahead, aheadIn}
 use Rattle.regions.specs.Lent.{decidedIn, rightsIn}
 use Rattle.regions.specs.Rights.{rightsWord}
 use Rattle.regions.specs.Rules.{decided}
 
-module _ (w : List ℕ) (n o : ℕ) (h : n ≤ 11) (l : 12 * n ≤ length w) where
-  pub decided-enough : (k : Kind) → k .cid .0 ≤ 7 → decidedIn w n o k ≡ decided w n o k
+module _ (bus : Bus) (w : List ℕ) (n o : ℕ) (h : n ≤ 11) (l : 12 * n ≤ length w) where
+  pub decided-enough : (k : Kind) → k .cid .0 ≤ 7 → decidedIn bus w n o k ≡ decided bus w n o k
   unfolding decidedIn
   decided-enough k m =
-      ap (λ (b : Bool). cond b (decided w n o k) (record { rule = 0; reason = 3 }))
+      ap (λ (b : Bool). cond b (decided bus w n o k) (record { rule = 0; reason = 3 }))
       (ap₂ _&&_ (ap₂ _&&_ (le-leb n 11 h) (le-leb (12 * n) (length w) l)) (le-leb (k .cid .0) 7 m))
 
-  pub rights-enough : rightsIn w n o ≡ rightsWord w n o
+  pub rights-enough : rightsIn bus w n o ≡ rightsWord bus w n o
   unfolding rightsIn
   rights-enough =
-      ap (λ (b : Bool). cond b (rightsWord w n o) 0) (ap₂ _&&_ (le-leb n 11 h) (le-leb (12 * n) (length w) l))
+      ap (λ (b : Bool). cond b (rightsWord bus w n o) 0) (ap₂ _&&_ (le-leb n 11 h) (le-leb (12 * n) (length w) l))
 
   pub ahead-enough : (to : ℕ) → aheadIn w n o to ≡ ahead w n o to
   unfolding aheadIn

@@ -2,11 +2,15 @@
 use mathlib.Core.Bool.{_&&_}
 use mathlib.Core.List.{List}
 use mathlib.Core.Path.{_≡_, ap, ap₂, _∙_}
-use Prim.Native.Nat.{ℕ, _+_, _<_}
+use Prim.Native.Nat.{ℕ, _+_, _≤_, _<_}
+use native.Mathlib.Omega.{arith}
 use lib.ListN.{getD}
 use Rattle.words.specs.Bit.{bit, field}
 use Rattle.words.proofs.Laws.{field-lt}
+use Rattle.access.specs.Bus.{heard}
+use Rattle.access.specs.declared.bus.Bus.{Bus}
 use Rattle.access.specs.declared.kind.Kind.{Kind}
+use Rattle.access.proofs.Heard.{heard-cid}
 use Rattle.regions.specs.Words.{startAt, endAt, cidcfgrAt, base, sub, enableBit, secBit, privcBit, srcidBit, privBit, rdenBit, wrenBit, readBit, writeBit}
 use Rattle.regions.specs.Rules.{covers, counts, srcid, workingPriv, decided}
 use Rattle.regions.proofs.SameVerdict.{BaseSays, SubSays, same-verdict}
@@ -46,15 +50,16 @@ pub record Region (w w′ : List ℕ) (x : ℕ) : Type 0 where
 covers-same : {w w′ : List ℕ} {p : ℕ} (o : ℕ) → Span w w′ p → covers w p o ≡ covers w′ p o
 covers-same o r = rw (r .enable, r .start, r .last)
 
-module _ {w w′ : List ℕ} (n o : ℕ) (k : Kind) (cid : k .cid .0 < 8) (same : (x : ℕ) → x < n → Region w w′ x) where
+module _ (bus : Bus) {w w′ : List ℕ} (n o : ℕ) (k : Kind) (cid : k .cid .0 ≤ 7) (same : (x : ℕ) → x < n → Region w w′ x) where
   counts-same : (x : ℕ) → x < n → (s : ℕ) → s < 2 → counts w o x s ≡ counts w′ o x s
   counts-same x h s l = ap₂ _&&_ (covers-same o (same x h .span)) (covers-same o (same x h .subs s l .span))
 
-  bases-same : (x : ℕ) → x < n → BaseSays w w′ k x
+  bases-same : (x : ℕ) → x < n → BaseSays w w′ (heard bus k) x
   bases-same x h =
       let r = same x h in
-      let c = k .cid .0 in
-      (rw (r .sec), rw (r .privc c cid), rw (r .reads c cid, r .writes c cid))
+      let c = heard bus k .cid .0 in
+      let l : c < 8 = omega (arith, heard-cid bus k cid) in
+      (rw (r .sec), rw (r .privc c l), rw (r .reads c l, r .writes c l))
 
   priv-same : (x : ℕ) → x < n → (s : ℕ) → s < 2 → workingPriv w x s ≡ workingPriv w′ x s
   priv-same x h s l =
@@ -63,10 +68,10 @@ module _ {w w′ : List ℕ} (n o : ℕ) (k : Kind) (cid : k .cid .0 < 8) (same 
       (same x h .privc (srcid w x s .0) (field-lt (getD w (sub x s) 0) srcidBit 3)
       ∙ ap (λ (c : ℕ). bit (getD w′ (base x) 0) (privcBit c)) (r .source))
 
-  subs-same : (x : ℕ) → x < n → (s : ℕ) → s < 2 → SubSays w w′ k x s
+  subs-same : (x : ℕ) → x < n → (s : ℕ) → s < 2 → SubSays w w′ (heard bus k) x s
   subs-same x h s l =
       let r = same x h .subs s l in
       (ap₂ _&&_ (r .sec) (same x h .sec), priv-same x h s l, rw (r .source, r .wren, r .rden))
 
-  pub decided-same : decided w n o k ≡ decided w′ n o k
-  decided-same = same-verdict w w′ n o o k (λ x h. covers-same o (same x h .span)) counts-same bases-same subs-same
+  pub decided-same : decided bus w n o k ≡ decided bus w′ n o k
+  decided-same = same-verdict bus w w′ n o o k (λ x h. covers-same o (same x h .span)) counts-same bases-same subs-same

@@ -8,6 +8,7 @@ use lib.Dec.{eqb}
 use Rattle.words.specs.Bit.{bit, one}
 use Rattle.words.proofs.Laws.{bit-word}
 use Rattle.access.specs.Kind.{kindOf, rightsBit}
+use Rattle.access.specs.declared.bus.Bus.{Bus}
 use Rattle.access.specs.declared.kind.Kind.{Kind}
 use Rattle.regions.specs.Rights.{rightsWord}
 use Rattle.regions.specs.Rules.{decided, granted}
@@ -41,9 +42,9 @@ kind-place k h = kind-same cid (is 3 (k .write) write) (is 4 (k .privileged) pri
     secure : rightsBit k / 2 ^ 5 % 2 ≡ one (k .secure)
     secure = omega (arith, one-most (k .write), one-most (k .privileged), one-most (k .secure))
 
-pub rights-bit : (w : List ℕ) (n o : ℕ) (k : Kind) → k .cid .0 ≤ 7
-    → bit (rightsWord w n o) (rightsBit k) ≡ granted (decided w n o k)
+pub rights-bit : (bus : Bus) (w : List ℕ) (n o : ℕ) (k : Kind) → k .cid .0 ≤ 7
+    → bit (rightsWord bus w n o) (rightsBit k) ≡ granted (decided bus w n o k)
 unfolding rightsWord
-rights-bit w n o k h =
-    bit-word 64 (λ b. granted (decided w n o (kindOf b))) (rightsBit k) (place-lt k h)
-    ∙ ap (λ (q : Kind). granted (decided w n o q)) (kind-place k h)
+rights-bit bus w n o k h =
+    bit-word 64 (λ b. granted (decided bus w n o (kindOf b))) (rightsBit k) (place-lt k h)
+    ∙ ap (λ (q : Kind). granted (decided bus w n o q)) (kind-place k h)

@@ -2,7 +2,7 @@
 use mathlib.Core.Bool.{Bool, true, false, not, _&&_, _||_, and-comm}
 use mathlib.Core.List.{List}
 use mathlib.Core.Path.{_≡_, sym, ap, ap₂, _∙_, subst}
-use Prim.Native.Nat.{ℕ, zero, suc, _+_, _-_, _*_, _%_, _^_, _<_}
+use Prim.Native.Nat.{ℕ, zero, suc, _+_, _-_, _*_, _%_, _^_, _≤_, _<_}
 use native.Mathlib.Nat.{add-assoc, add-mul, mul-assoc, mul-comm, mod-lt}
 use native.Mathlib.Numerals.{unary-clauses}
 use native.Mathlib.Omega.{arith}
@@ -12,12 +12,13 @@ use Rattle.words.specs.Bit.{bit, one, word}
 use Rattle.words.proofs.Laws.{bit-mod, bit-zero, word-cong, word-ext, word-lt}
 use Rattle.words.proofs.Ops.{bit-and, bit-not}
 use Rattle.access.specs.Kind.{kindOf, rightsBit}
+use Rattle.access.specs.declared.bus.Bus.{Bus}
 use Rattle.access.specs.declared.kind.Kind.{Kind}
-use Rattle.regions.specs.Admits.{admitted, admitsSecurity, openTo, testsOf, verdictOf, rightsFrom, byteAt, byteOf}
+use Rattle.regions.specs.Admits.{admitted, asHeard, admitsSecurity, openTo, testsOf, verdictOf, rightsFrom, byteAt, byteOf}
 use Rattle.regions.specs.Rights.{rightsWord}
 use Rattle.regions.specs.Rules.{granted}
 use Rattle.regions.specs.declared.admits.Admits.{Admits}
-use Rattle.regions.proofs.AdmitsTests.{verdict-is}
+use Rattle.regions.proofs.AdmitsTests.{verdict-is, as-heard}
 use Rattle.regions.proofs.Granted.{all-pass}
 use Rattle.regions.proofs.RightsBits.{kind-place}
 
@@ -53,13 +54,15 @@ module _ (a : Admits) where
       ∙ word-join n k (λ i. grants (kindOf (at + i)))
 
 -- the theorem: each bit is the verdict on its kind of asking
-pub rights-admitted : (w : List ℕ) (n o : ℕ) → rightsFrom (admitted w n o) 0 64 ≡ rightsWord w n o
+pub rights-admitted : (bus : Bus) (w : List ℕ) (n o : ℕ) → rightsFrom (asHeard bus (admitted bus w n o)) 0 64 ≡ rightsWord bus w n o
 unfolding rightsFrom rightsWord
-rights-admitted w n o =
+rights-admitted bus w n o =
     word-cong 64 _ _
     (λ b h.
     let e : 0 + b ≡ b = omega arith in
-    ap (λ (i : ℕ). grants (admitted w n o) (kindOf i)) e ∙ ap granted (verdict-is w n o (kindOf b) (omega arith)))
+    let c : kindOf b .cid .0 ≤ 7 = omega arith in
+    ap (λ (i : ℕ). grants (asHeard bus (admitted bus w n o)) (kindOf i)) e
+    ∙ ap granted (as-heard bus (admitted bus w n o) (kindOf b) c ∙ verdict-is bus w n o (kindOf b) c))
 
 -- ---- the compartments of a byte
 

@@ -6,6 +6,7 @@ use Prim.Native.Nat.{ℕ, zero, suc, _<_}
 use native.Mathlib.Omega.{arith}
 use Rattle.words.proofs.Laws.{word-cong}
 use Rattle.access.specs.Kind.{kindOf}
+use Rattle.access.specs.declared.bus.Bus.{Bus}
 use Rattle.regions.specs.Words.{base, sub}
 use Rattle.regions.specs.Rights.{rightsWord}
 use Rattle.regions.specs.Rules.{covers, counts, granted}
@@ -27,10 +28,10 @@ module _ (w : List ℕ) (o o′ : ℕ) where
       by true e (suc zero) h = ap₂ _&&_ (a .own) (a .subs e .1)
       by true e (suc (suc s)) h = absurd (omega arith)
 
-  pub rights-by-cover : (n : ℕ) → ((x : ℕ) → x < n → SameCover w o o′ x) → rightsWord w n o ≡ rightsWord w n o′
+  pub rights-by-cover : (bus : Bus) (n : ℕ) → ((x : ℕ) → x < n → SameCover w o o′ x) → rightsWord bus w n o ≡ rightsWord bus w n o′
   unfolding rightsWord
-  rights-by-cover n a =
+  rights-by-cover bus n a =
       word-cong 64 _ _
       (λ b h.
       ap granted
-      (same-verdict w w n o o′ (kindOf b) (λ x l. a x l .own) (λ x l. counts-same x (a x l)) (λ x l. (refl, refl, refl)) (λ x l s i. (refl, refl, refl))))
+      (same-verdict bus w w n o o′ (kindOf b) (λ x l. a x l .own) (λ x l. counts-same x (a x l)) (λ x l. (refl, refl, refl)) (λ x l s i. (refl, refl, refl))))

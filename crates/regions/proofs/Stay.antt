@@ -5,6 +5,7 @@ use mathlib.Core.Path.{_≡_, sym, _∙_}
 use Prim.Native.Nat.{ℕ, zero, suc, _+_, _≤_, _<_}
 use native.Mathlib.Decide.{decLt}
 use native.Mathlib.Omega.{arith}
+use Rattle.access.specs.declared.bus.Bus.{Bus}
 use Rattle.regions.specs.Ahead.{lesser, regionAhead, subAhead, baseAhead, ahead}
 use Rattle.regions.specs.Words.{base, sub}
 use Rattle.regions.specs.Rights.{rightsWord}
@@ -65,5 +66,5 @@ module _ (w : List ℕ) (o y : ℕ) (h : o ≤ y) where
       by (yes i) earlier = earlier i
       by (no i) earlier = let e : x ≡ n = omega arith in rw e (base-stays n (ahead w n o to) l)
 
-  pub rights-stay : (n to : ℕ) → y < ahead w n o to → rightsWord w n y ≡ rightsWord w n o
-  rights-stay n to l = sym (rights-by-cover w o y n (ahead-stays n to l))
+  pub rights-stay : (bus : Bus) (n to : ℕ) → y < ahead w n o to → rightsWord bus w n y ≡ rightsWord bus w n o
+  rights-stay bus n to l = sym (rights-by-cover w o y bus n (ahead-stays n to l))

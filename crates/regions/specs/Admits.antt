@@ -7,6 +7,8 @@ use lib.Bits.{bitOr}
 use lib.Dec.{eqb}
 use Rattle.words.specs.Bit.{bit, one, word, field}
 use Rattle.access.specs.Kind.{kindOf}
+use Rattle.access.specs.declared.bus.Bus.{Bus}
+use Rattle.access.specs.declared.bus.Bus.the-variants.{Axi, Ahb}
 use Rattle.access.specs.declared.kind.Kind.{Kind}
 use Rattle.regions.specs.Words.{enableBit, secBit, privcBit, readBit, writeBit}
 use Rattle.regions.specs.Rules.{Tests, reasonOf, granted, covered}
@@ -17,9 +19,15 @@ use Rattle.regions.specs.declared.rules.Verdict.{Verdict}
 
 -- ---- by the rule that governs
 
--- rule 0: secure; no compartment unprivileged; CID 1, and CID 7
-unfoldable pub byDefault : Admits
-byDefault = record { rule = 0; secure = true; nonsecure = false; closed = 0xff; reads = 0x82; writes = 0x82 }
+-- the compartments of rule 0: CID 1, and CID 7; on AHB all
+abbrev pub defaults : Bus → ℕ
+defaults Axi = 0x82
+defaults Ahb = 0xff
+
+-- rule 0: secure; no compartment unprivileged
+unfoldable pub byDefault : Bus → Admits
+byDefault bus =
+    record { rule = 0; secure = true; nonsecure = false; closed = 0xff; reads = defaults bus; writes = defaults bus }
 
 -- rule 1, with CID 7 enabled
 unfoldable pub byBases : Masks → Admits
@@ -54,11 +62,30 @@ unfoldable pub byRegions : Masks → Admits
 byRegions m = cond (eqb (m .opens) 0) (byBases m) (bySubs m)
 
 -- some base region covers where some CFGR has the enable
-unfoldable pub byMasks : Masks → Admits
-byMasks m = cond (bit (m .some) enableBit) (byRegions m) byDefault
+unfoldable pub byMasks : Bus → Masks → Admits
+byMasks bus m = cond (bit (m .some) enableBit) (byRegions m) (byDefault bus)
 
-unfoldable pub admitted : List ℕ → ℕ → ℕ → Admits
-admitted w n o = cond (covered w n o) (byRegions (masks w n o)) byDefault
+unfoldable pub admitted : Bus → List ℕ → ℕ → ℕ → Admits
+admitted bus w n o = cond (covered w n o) (byRegions (masks w n o)) (byDefault bus)
+
+-- ---- as the bus hears them
+
+-- all compartments where CID 0 is one of the mask's
+abbrev pub allAsZero : ℕ → ℕ
+allAsZero mask = cond (bit mask 0) 0xff 0
+
+-- each compartment as the one that it is heard as
+unfoldable pub asHeard : Bus → Admits → Admits
+asHeard Axi a = a
+asHeard Ahb a =
+    record {
+      rule = a .rule;
+      secure = a .secure;
+      nonsecure = a .nonsecure;
+      closed = allAsZero (a .closed);
+      reads = allAsZero (a .reads);
+      writes = allAsZero (a .writes);
+    }
 
 -- ---- the tests
 

@@ -2,13 +2,14 @@
 use mathlib.Core.Bool.{Bool, not, _&&_, _||_, cond, Bool·beq}
 use mathlib.Core.List.{List}
 use Prim.Native.Nat.{ℕ}
-use Rattle.access.specs.Kind.{equals}
+use Rattle.access.specs.Bus.{heard}
+use Rattle.access.specs.declared.bus.Bus.{Bus}
 use Rattle.access.specs.declared.kind.Kind.{Kind}
-use Rattle.regions.specs.Rules.{passes, everyBase, secEqual, privcPassed, enabledFor, workingSec, workingPriv, opens, someSub, everySub, counted, covered}
+use Rattle.regions.specs.Rules.{isDefault, everyBase, secEqual, privcPassed, enabledFor, workingSec, workingPriv, opens, someSub, everySub, counted, covered}
 
--- rule 0: secure, privileged, CID 1
-abbrev pub grants0 : Kind → Bool
-grants0 k = k .secure && k .privileged && (equals (k .cid) (record { 0 = 1 }) || passes k)
+-- rule 0: secure, privileged, CID 1, of which AHB tests the first two
+abbrev pub grants0 : Bus → Kind → Bool
+grants0 bus k = k .secure && k .privileged && isDefault bus k
 
 -- a base region grants: secure equals SEC; privileged or PRIVC of the CID is 0; the enable for CID and direction is 1
 abbrev pub baseGrants : List ℕ → Kind → ℕ → Bool
@@ -25,6 +26,8 @@ grants2 w n o k =
     && (k .privileged || not (everySub w n o (workingPriv w)))
     && someSub w n o (opens w k)
 
--- if some subregion counts, rule 2; else if some enabled base region covers, rule 1; else rule 0
-unfoldable pub ruleGrants : List ℕ → ℕ → ℕ → Kind → Bool
-ruleGrants w n o k = cond (counted w n o) (grants2 w n o k) (cond (covered w n o) (grants1 w n o k) (grants0 k))
+-- as the bus hears the asking: if some subregion counts, rule 2; else if some enabled base region covers, rule 1; else rule 0
+unfoldable pub ruleGrants : Bus → List ℕ → ℕ → ℕ → Kind → Bool
+ruleGrants bus w n o k =
+    let h = heard bus k in
+    cond (counted w n o) (grants2 w n o h) (cond (covered w n o) (grants1 w n o h) (grants0 bus h))

@@ -5,6 +5,7 @@ use Prim.Native.Nat.{ℕ}
 use lib.Dec.{leb}
 use lib.ListN.{length}
 use Rattle.access.specs.Kind.{isCid}
+use Rattle.access.specs.declared.bus.Bus.{Bus}
 use Rattle.access.specs.declared.kind.Kind.{Kind}
 use Rattle.regions.specs.Words.{base, mostRegions}
 use Rattle.regions.specs.Rights.{rightsWord}
@@ -16,9 +17,9 @@ abbrev pub enough : List ℕ → ℕ → Bool
 enough w n = leb n mostRegions && leb (base n) (length w)
 
 -- too few words, or a CID over 7: rule 0, refused for the compartment
-unfoldable pub decidedIn : List ℕ → ℕ → ℕ → Kind → Verdict
-decidedIn w n o k = cond (enough w n && isCid (k .cid)) (decided w n o k) (record { rule = 0; reason = 3 })
+unfoldable pub decidedIn : Bus → List ℕ → ℕ → ℕ → Kind → Verdict
+decidedIn bus w n o k = cond (enough w n && isCid (k .cid)) (decided bus w n o k) (record { rule = 0; reason = 3 })
 
 -- too few words: no rights
-unfoldable pub rightsIn : List ℕ → ℕ → ℕ → ℕ
-rightsIn w n o = cond (enough w n) (rightsWord w n o) 0
+unfoldable pub rightsIn : Bus → List ℕ → ℕ → ℕ → ℕ
+rightsIn bus w n o = cond (enough w n) (rightsWord bus w n o) 0

@@ -4,9 +4,11 @@ use crate::places::PRIVC;
 use crate::places::READS;
 use crate::places::SEC;
 use crate::places::WRITES;
+use access::Bus;
 ghost use mathlib.Core.Bool.{cond};
 ghost use mathlib.Core.Path.{_≡_};
-ghost use Rattle.regions.specs.Admits.{admitsSecurity, byBases, byDefault, byMasks, byRegions, bySubs, openTo, withDebugger};
+ghost use Rattle.access.specs.declared.bus.Bus.the-variants.{Ahb};
+ghost use Rattle.regions.specs.Admits.{admitsSecurity, asHeard, byBases, byDefault, byMasks, byRegions, bySubs, defaults, openTo, withDebugger};
 
 // Who passes the tests of the rule that governs an offset, in their order: security, privilege, compartment and direction. Bit c of a
 // mask is CID c; what is above bit 7 means nothing.
@@ -20,24 +22,35 @@ pub(crate) struct Admits {
     pub(crate) writes: u32,
 }
 
-// All compartments; the debugger's, which passes every compartment test; those that rule 0 admits.
+// All compartments; the debugger's, which passes every compartment test; those that rule 0 admits on AXI.
 const ALL: u32 = 0xff;
 
 const DEBUGGERS: u32 = 0x80;
 
 const DEFAULTS: u32 = 0x82;
 
-// Rule 0.
-pub(crate) fn by_default() -> Admits
-    ensures { λ r. ⌜ r ≡ byDefault ⌝ }
+// The compartments that rule 0 admits.
+fn defaults(bus: Bus) -> u32
+    ensures { λ r. ⌜ r ≡ defaults bus ⌝ }
 {
+    match bus {
+        Bus::Axi => DEFAULTS,
+        Bus::Ahb => ALL,
+    }
+}
+
+// Rule 0.
+pub(crate) fn by_default(bus: Bus) -> Admits
+    ensures { λ r. ⌜ r ≡ byDefault bus ⌝ }
+{
+    let compartments = defaults(bus);
     Admits {
         rule: 0,
         secure: true,
         nonsecure: false,
         closed: ALL,
-        reads: DEFAULTS,
-        writes: DEFAULTS,
+        reads: compartments,
+        writes: compartments,
     }
 }
 
@@ -101,13 +114,40 @@ pub(crate) fn by_regions(m: Masks) -> Admits
 }
 
 // The same, or else rule 0: every base region that covers has its enable in CFGR.
-pub(crate) fn by_masks(m: Masks) -> Admits
-    ensures { λ r. ⌜ r ≡ byMasks m ⌝ }
+pub(crate) fn by_masks(bus: Bus, m: Masks) -> Admits
+    ensures { λ r. ⌜ r ≡ byMasks bus m ⌝ }
 {
     if (m.some >> ENABLE) % 2 != 1 {
-        return by_default();
+        return by_default(bus);
     }
     by_regions(m)
+}
+
+// All compartments as CID 0.
+fn all_as_zero(a: Admits) -> Admits
+    ensures { λ r. ⌜ r ≡ asHeard Ahb a ⌝ }
+{
+    let closed = all_if((a.closed >> 0) % 2 == 1);
+    let reads = all_if((a.reads >> 0) % 2 == 1);
+    let writes = all_if((a.writes >> 0) % 2 == 1);
+    Admits {
+        rule: a.rule,
+        secure: a.secure,
+        nonsecure: a.nonsecure,
+        closed,
+        reads,
+        writes,
+    }
+}
+
+// Each compartment as the one that the bus hears it as.
+pub(crate) fn as_heard(bus: Bus, a: Admits) -> Admits
+    ensures { λ r. ⌜ r ≡ asHeard bus a ⌝ }
+{
+    match bus {
+        Bus::Axi => a,
+        Bus::Ahb => all_as_zero(a),
+    }
 }
 
 // Whether this security passes.

@@ -1,10 +1,12 @@
 use crate::admits::Admits;
 use crate::admits::admits_security;
+use crate::admits::as_heard;
 use crate::admits::by_masks;
 use crate::admits::open_to;
 use crate::places::MOST_REGIONS;
 use crate::places::REGION_WORDS;
 use crate::scan::scanned;
+use access::Bus;
 ghost use mathlib.Core.Bool.{false};
 ghost use mathlib.Core.Path.{_≡_};
 ghost use Rattle.regions.specs.Ahead.{aheadIn};
@@ -54,8 +56,8 @@ pub struct Stretch {
 
 // The stretch from an offset on, by the words of n base regions: up to a boundary of theirs that is ahead, or to `to` where that is
 // nearer. Where the words are too few, no rights up to `to`.
-pub fn stretch_at(w: &[u32], n: usize, o: u32, to: u64) -> Stretch
-    ensures { λ r. ⌜ r .rights ≡ rightsIn (now (w .entry)) n o ⌝ }
+pub fn stretch_at(bus: Bus, w: &[u32], n: usize, o: u32, to: u64) -> Stretch
+    ensures { λ r. ⌜ r .rights ≡ rightsIn bus (now (w .entry)) n o ⌝ }
     ensures { λ r. ⌜ r .to ≡ aheadIn (now (w .entry)) n o to ⌝ }
 {
     let nothing = Stretch { rights: 0, to };
@@ -67,14 +69,14 @@ pub fn stretch_at(w: &[u32], n: usize, o: u32, to: u64) -> Stretch
     }
     let s = scanned(w, n, o, to);
     Stretch {
-        rights: word(by_masks(s.masks)),
+        rights: word(as_heard(bus, by_masks(bus, s.masks))),
         to: s.to,
     }
 }
 
 // The rights word of an offset, by the words of n base regions: 0 where they are too few.
-pub fn rights_at(w: &[u32], n: usize, o: u32) -> u64
-    ensures { λ r. ⌜ r ≡ rightsIn (now (w .entry)) n o ⌝ }
+pub fn rights_at(bus: Bus, w: &[u32], n: usize, o: u32) -> u64
+    ensures { λ r. ⌜ r ≡ rightsIn bus (now (w .entry)) n o ⌝ }
 {
-    stretch_at(w, n, o, 0).rights
+    stretch_at(bus, w, n, o, 0).rights
 }

@@ -7,6 +7,7 @@ use crate::masks::gathered;
 use crate::masks::next_covering;
 use crate::places::MOST_REGIONS;
 use crate::places::REGION_WORDS;
+use access::Bus;
 use access::DEBUGGER;
 use access::Kind;
 ghost use mathlib.Core.Path.{_≡_};
@@ -63,8 +64,8 @@ fn judged(a: Admits, k: Kind) -> Verdict
 }
 
 // The verdict at an offset, by the words of n base regions. Too few words, or a CID over 7, are refused for the compartment.
-pub fn decide(w: &[u32], n: usize, o: u32, k: Kind) -> Verdict
-    ensures { λ r. ⌜ r ≡ decidedIn (now (w .entry)) n o k ⌝ }
+pub fn decide(bus: Bus, w: &[u32], n: usize, o: u32, k: Kind) -> Verdict
+    ensures { λ r. ⌜ r ≡ decidedIn bus (now (w .entry)) n o k ⌝ }
 {
     let nothing = Verdict {
         rule: 0,
@@ -79,9 +80,10 @@ pub fn decide(w: &[u32], n: usize, o: u32, k: Kind) -> Verdict
     if DEBUGGER.0 < k.cid.0 {
         return nothing;
     }
+    let heard = bus.hears(k);
     let first = next_covering(w, 0, n, o);
     if first == n {
-        return judged(by_default(), k);
+        return judged(by_default(bus), heard);
     }
-    judged(by_regions(gathered(w, first, n, o)), k)
+    judged(by_regions(gathered(w, first, n, o)), heard)
 }

@@ -2,13 +2,11 @@
 use crate::run::front;
 use diff::used_part;
 use libc::STDOUT_FILENO;
+use risaf::GUARD_NUMBERS;
 use risaf::GuardNumber;
 use script::print_diff;
 use script::print_end;
 use script::print_guard;
-
-// Every guard's number is below this.
-const NUMBERS: u32 = 32;
 
 // The lines of the rows of a result, from `at` on. The place after them.
 fn put_rows(out: &mut [u8], at: usize, rows: &[u64]) -> usize {
@@ -70,7 +68,7 @@ fn print_number(out: &mut [u8], old: &[u32], new: &[u32], n: u32) -> bool {
 
 // Prints the sheets of all guards, in rising number.
 fn print_sheets(out: &mut [u8], old: &[u32], new: &[u32]) {
-    for n in 0..NUMBERS {
+    for n in 0..GUARD_NUMBERS {
         if !print_number(out, old, new, n) {
             return;
         }

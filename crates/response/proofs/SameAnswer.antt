@@ -7,6 +7,7 @@ use lib.Dec.{lit<}
 use Rattle.words.specs.Bit.{bit, masked, united}
 use Rattle.words.proofs.Laws.{word-lt}
 use Rattle.access.specs.Answer.{numberOf, valueOf}
+use Rattle.access.specs.Bus.{heard}
 use Rattle.access.specs.Checks.{unless, answeredWith, reachedWith}
 use Rattle.access.specs.Request.{gives}
 use Rattle.access.specs.declared.answer.Answer.{Answer}
@@ -93,9 +94,11 @@ register-few (Risaf n) q s = answered-few _ _ 0 (gives-few q _ (masked-few _ _))
 memory-few : (there : Bool) (n o width : ℕ) (k : Kind) (s : State) → valueOf (memoryStep there n o width k s .answer) < 2 ^ 32
 unfolding memoryStep memoryStepped memoryAnswer decided
 memory-few there n o width k s =
+    let shape = shapeOf n in
     let w = guardOf s n .regions in
-    let m = shapeOf n .regions in
-    answered-few _ (ruleOf w m o) (reasonOf (tests w m o k)) (rule-few w m o) (reason-few (tests w m o k))
+    let m = shape .regions in
+    let t = tests (shape .bus) w m o (heard (shape .bus) k) in
+    answered-few _ (ruleOf w m o) (reasonOf t) (rule-few w m o) (reason-few t)
 
 step-few : (e : Event) (s : State) → valueOf (step e s .answer) < 2 ^ 32
 unfolding step peripheralStep

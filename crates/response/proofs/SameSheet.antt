@@ -55,7 +55,7 @@ small-map f h (suc x) l = small-join (mapOf f x) x (f x) (small-map f h x (omega
 
 rights-few : (s : State) (n o : ℕ) → rightsOf s n o < 2 ^ 64
 unfolding rightsOf rightsWord
-rights-few s n o = word-lt 64 (λ b. granted (decided (guardOf s n .regions) (shapeOf n .regions) o (kindOf b)))
+rights-few s n o = word-lt 64 (λ b. granted (decided (shapeOf n .bus) (guardOf s n .regions) (shapeOf n .regions) o (kindOf b)))
 
 small-rows : (s : State) (n : ℕ) → Small (rowsOf s n)
 unfolding rowsOf

@@ -1,3 +1,4 @@
+pub mod Granules
 pub mod MemoryAnswer
 pub mod NamedBits
 pub mod NamedMemory

@@ -14,6 +14,7 @@ use Rattle.access.specs.declared.answer.Answer.{Answer}
 use Rattle.access.specs.declared.answer.Answer.the-variants.{Done, Refused, Rejected}
 use Rattle.access.specs.declared.answer.Why.the-variants.{NoSuch, Misaligned, Outside}
 use Rattle.access.specs.Kind.{debugger, isCid}
+use Rattle.access.specs.declared.bus.Bus.{Bus}
 use Rattle.access.specs.declared.checks.Checks.{Checks}
 use Rattle.access.specs.declared.kind.Kind.{Kind}
 use Rattle.regions.specs.Lent.{decidedIn}
@@ -126,11 +127,11 @@ pub answer-over : (there : Bool) (shape : Shape) (o width : ℕ) (k : Kind) (v :
 unfolding memoryAnswer memoryChecks answeredWith
 answer-over there shape o width k v h = simp (lt-leb _ _ h, and-false)
 
-pub answer-in : (there : Bool) (shape : Shape) (o width : ℕ) (k : Kind) (w : List ℕ) (n : ℕ) → n ≤ mostRegions → base n ≤ length w
-    → memoryAnswer there shape o width k (decidedIn w n o k) ≡ memoryAnswer there shape o width k (decided w n o k)
-answer-in there shape o width k w n h l = go (decLt (debugger .0) (k .cid .0))
+pub answer-in : (there : Bool) (shape : Shape) (o width : ℕ) (k : Kind) (bus : Bus) (w : List ℕ) (n : ℕ) → n ≤ mostRegions → base n ≤ length w
+    → memoryAnswer there shape o width k (decidedIn bus w n o k) ≡ memoryAnswer there shape o width k (decided bus w n o k)
+answer-in there shape o width k bus w n h l = go (decLt (debugger .0) (k .cid .0))
   where
     go : Dec (debugger .0 < k .cid .0)
-        → memoryAnswer there shape o width k (decidedIn w n o k) ≡ memoryAnswer there shape o width k (decided w n o k)
+        → memoryAnswer there shape o width k (decidedIn bus w n o k) ≡ memoryAnswer there shape o width k (decided bus w n o k)
     go (yes m) = answer-over there shape o width k _ m ∙ sym (answer-over there shape o width k _ m)
-    go (no r) = ap (memoryAnswer there shape o width k) (decided-enough w n o h l k (omega arith))
+    go (no r) = ap (memoryAnswer there shape o width k) (decided-enough bus w n o h l k (omega arith))

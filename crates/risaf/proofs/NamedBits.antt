@@ -13,6 +13,7 @@ use Rattle.words.proofs.Alike.{Whole, Kept, Same, kept-refl, same-refl, kept-se
 use Rattle.access.specs.Answer.{left}
 use Rattle.access.specs.declared.answer.Answer.{Answer}
 use Rattle.access.specs.declared.answer.Answer.the-variants.{Done, Refused, Rejected}
+use Rattle.access.specs.declared.bus.Bus.{Bus}
 use Rattle.access.specs.declared.request.Request.{Request}
 use Rattle.regions.specs.Words.{secBit, base, sub, nestAt}
 use Rattle.risaf.specs.Contents.{iasrAt, headWords, guardWords, guardFrom, withWord}
@@ -20,6 +21,7 @@ use Rattle.risaf.specs.Registers.{registerAt}
 use Rattle.risaf.specs.Rows.{PlacedIn, ofHead, ofBase, ofSub, rowOf}
 use Rattle.risaf.specs.Port.{portIn, readOf, delegated, allowedOf, lockedOf, wordWritten, checksOf, answerOf, withPortWord, refusedPort, accessed, stepped}
 use Rattle.risaf.specs.declared.contents.Guard.{Guard}
+use Rattle.risaf.specs.declared.guards.Shape.{Shape}
 use Rattle.risaf.specs.declared.port.Port.{Port}
 use Rattle.risaf.specs.declared.registers.Head.the-variants.{Cr, Iasr, Iacr, Iaesr, Iaddr}
 use Rattle.risaf.specs.declared.registers.BaseField.the-variants.{Cfgr, Start, End, Cidcfgr}
@@ -29,13 +31,13 @@ use Rattle.risaf.specs.declared.registers.Register.the-variants.{OfHead,
 use Rattle.risaf.proofs.RegisterMap.{register-own}
 use Rattle.risaf.proofs.NamedWords.{Alike, Has, words-alike, word-alike, row-whole, word-kept, word-same}
 
--- ---- what an access to a register leaves, by its answer; w says whether it is a write
+-- ---- what an access to a register of a guard with this granule leaves, by its answer; w says whether it is a write
 
-abbrev leaves : Answer → Bool → Guard → Register → Request → Guard
-leaves a w g reg q =
+abbrev leaves : ℕ → Answer → Bool → Guard → Register → Request → Guard
+leaves granule a w g reg q =
     let row = rowOf reg in
     let p = portIn (guardWords g) row in
-    let t = left a p (cond w (withPortWord p (wordWritten row p (q .value) (q .secure))) p) (refusedPort p) in
+    let t = left a p (cond w (withPortWord p (wordWritten granule row p (q .value) (q .secure))) p) (refusedPort p) in
     left a g (cond w (withWord g (row .place) (t .word)) g) (withWord g iasrAt (t .iasr))
 
 -- ---- an access changes named bits alone
@@ -47,31 +49,33 @@ module _ {n : ℕ} {G g : Guard} (has : Has n G) (own : Alike Kept G g g) where
       subst (Alike Kept G (withWord g place v)) (ap guardFrom (set-getD (guardWords g) place 0)) (word-alike place (kept-refl 0 0) own r)
 
   -- where it is done
-  written-kept : (reg : Register) → PlacedIn n reg → (value : ℕ) (secure : Bool)
-      → Alike Kept G (withWord g (rowOf reg .place) (wordWritten (rowOf reg) (portIn (guardWords g) (rowOf reg)) value secure)) g
+  written-kept : (granule : ℕ) (reg : Register) → PlacedIn n reg → (value : ℕ) (secure : Bool)
+      → Alike Kept G (withWord g (rowOf reg .place) (wordWritten granule (rowOf reg) (portIn (guardWords g) (rowOf reg)) value secure)) g
   unfolding portIn
-  written-kept reg placed value secure =
+  written-kept granule reg placed value secure =
       let row = rowOf reg in
       let mask = getD (guardWords G) (row .place) 0 in
       stored-kept (row .place) _
-      (word-kept (row .named) mask value secure (row .form) (portIn (guardWords g) row) (row-whole reg) (has reg placed))
+      (word-kept granule (row .named) mask value secure (row .form) (portIn (guardWords g) row) (row-whole reg) (has reg placed))
 
   -- where it is refused
   refused-kept : Alike Kept G (withWord g iasrAt (withBit 32 (g .iasr) 0 true)) g
   unfolding rowOf ofHead
   refused-kept = stored-kept iasrAt _ (kept-set (G .iasr) (g .iasr) 0 (has (OfHead Iasr) tt 0 (lit< tt) refl))
 
-  pub stepped-kept : (there : Bool) (q : Request) → Alike Kept G (stepped there n g q .next) g
-  unfolding stepped accessed portIn
-  stepped-kept there q =
-      let row = rowOf (registerAt n (q .offset)) in
-      go (answerOf there row (portIn (guardWords g) row) q) (q .write)
-    where
-      go : (a : Answer) (w : Bool) → Alike Kept G (leaves a w g (registerAt n (q .offset)) q) g
-      go (Done v) true = written-kept (registerAt n (q .offset)) (register-own n (q .offset)) (q .value) (q .secure)
-      go (Done v) false = own
-      go (Refused v) w = refused-kept
-      go (Rejected why) w = own
+pub stepped-kept : (shape : Shape) {G g : Guard} → Has (shape .regions) G → Alike Kept G g g → (q : Request)
+    → Alike Kept G (stepped shape g q .next) g
+unfolding stepped accessed portIn
+stepped-kept shape {G} {g} has own q = go (answerOf shape (rowOf reg) (portIn (guardWords g) (rowOf reg)) q) (q .write)
+  where
+    reg : Register
+    reg = registerAt (shape .regions) (q .offset)
+
+    go : (a : Answer) (w : Bool) → Alike Kept G (leaves (shape .granule) a w g reg q) g
+    go (Done v) true = written-kept has own (shape .granule) reg (register-own (shape .regions) (q .offset)) (q .value) (q .secure)
+    go (Done v) false = own
+    go (Refused v) w = refused-kept has own
+    go (Rejected why) w = own
 
 -- ---- it is answered by named bits alone, and leaves them alike where they were
 
@@ -118,22 +122,23 @@ module _ {n : ℕ} {G g g′ : Guard} (has : Has n G) (same : Alike Same G g g�
     unfolding rowOf ofSub
     dccid-same = field-ext (nest g) (nest g′) 4 3 (λ k i. bit-same (OfSub x s Nest) (h, l) (4 + k) (omega arith) (field-full _ 4 3 refl k i))
 
-  allowed-same : (reg : Register) → PlacedIn n reg → (q : Request) → allowedOf (rowOf reg) (port reg) q ≡ allowedOf (rowOf reg) (port′ reg) q
+  allowed-same : (bus : Bus) (reg : Register) → PlacedIn n reg → (q : Request)
+      → allowedOf bus (rowOf reg) (port reg) q ≡ allowedOf bus (rowOf reg) (port′ reg) q
   unfolding rowOf ofHead ofBase ofSub allowedOf delegated portIn
-  allowed-same (OfHead Cr) placed q = refl
-  allowed-same (OfHead Iasr) placed q = refl
-  allowed-same (OfHead Iacr) placed q = refl
-  allowed-same (OfHead Iaesr) placed q = refl
-  allowed-same (OfHead Iaddr) placed q = refl
-  allowed-same (OfBase x Cfgr) placed q = refl
-  allowed-same (OfBase x Start) placed q = refl
-  allowed-same (OfBase x End) placed q = refl
-  allowed-same (OfBase x Cidcfgr) placed q = refl
-  allowed-same (OfSub x s SubCfgr) (h, l) q = rw (dcen-same x s h l, dccid-same x s h l, sec-same x s h l)
-  allowed-same (OfSub x s SubStart) (h, l) q = rw (dcen-same x s h l, dccid-same x s h l, sec-same x s h l)
-  allowed-same (OfSub x s SubEnd) (h, l) q = rw (dcen-same x s h l, dccid-same x s h l, sec-same x s h l)
-  allowed-same (OfSub x s Nest) placed q = refl
-  allowed-same Unknown placed q = refl
+  allowed-same bus (OfHead Cr) placed q = refl
+  allowed-same bus (OfHead Iasr) placed q = refl
+  allowed-same bus (OfHead Iacr) placed q = refl
+  allowed-same bus (OfHead Iaesr) placed q = refl
+  allowed-same bus (OfHead Iaddr) placed q = refl
+  allowed-same bus (OfBase x Cfgr) placed q = refl
+  allowed-same bus (OfBase x Start) placed q = refl
+  allowed-same bus (OfBase x End) placed q = refl
+  allowed-same bus (OfBase x Cidcfgr) placed q = refl
+  allowed-same bus (OfSub x s SubCfgr) (h, l) q = rw (dcen-same x s h l, dccid-same x s h l, sec-same x s h l)
+  allowed-same bus (OfSub x s SubStart) (h, l) q = rw (dcen-same x s h l, dccid-same x s h l, sec-same x s h l)
+  allowed-same bus (OfSub x s SubEnd) (h, l) q = rw (dcen-same x s h l, dccid-same x s h l, sec-same x s h l)
+  allowed-same bus (OfSub x s Nest) placed q = refl
+  allowed-same bus Unknown placed q = refl
 
   locked-same : (reg : Register) → PlacedIn n reg → lockedOf (rowOf reg .lock) (port reg) ≡ lockedOf (rowOf reg .lock) (port′ reg)
   unfolding rowOf ofHead ofBase ofSub portIn
@@ -156,35 +161,40 @@ module _ {n : ℕ} {G g g′ : Guard} (has : Has n G) (same : Alike Same G g g�
   unfolding readOf portIn
   read-same reg placed = same-masked (rowOf reg .named) _ _ _ (has reg placed) (stored-same (rowOf reg .place))
 
-  answer-same : (there : Bool) (reg : Register) → PlacedIn n reg → (q : Request)
-      → answerOf there (rowOf reg) (port reg) q ≡ answerOf there (rowOf reg) (port′ reg) q
+  answer-same : (shape : Shape) (reg : Register) → PlacedIn n reg → (q : Request)
+      → answerOf shape (rowOf reg) (port reg) q ≡ answerOf shape (rowOf reg) (port′ reg) q
   unfolding answerOf checksOf
-  answer-same there reg placed q = rw (allowed-same reg placed q, locked-same reg placed, read-same reg placed)
+  answer-same shape reg placed q = rw (allowed-same (shape .bus) reg placed q, locked-same reg placed, read-same reg placed)
 
   -- where it is done
-  written-same : (reg : Register) → PlacedIn n reg → (value : ℕ) (secure : Bool)
-      → Alike Same G (withWord g (rowOf reg .place) (wordWritten (rowOf reg) (port reg) value secure))
-      (withWord g′ (rowOf reg .place) (wordWritten (rowOf reg) (port′ reg) value secure))
+  written-same : (granule : ℕ) (reg : Register) → PlacedIn n reg → (value : ℕ) (secure : Bool)
+      → Alike Same G (withWord g (rowOf reg .place) (wordWritten granule (rowOf reg) (port reg) value secure))
+      (withWord g′ (rowOf reg .place) (wordWritten granule (rowOf reg) (port′ reg) value secure))
   unfolding portIn
-  written-same reg placed value secure =
+  written-same granule reg placed value secure =
       let row = rowOf reg in
       word-alike (row .place) (same-refl 0 0) same
-      (word-same (row .named) _ value secure (row .form) (port reg) (port′ reg) glock-same (stored-same (row .place)))
+      (word-same granule (row .named) _ value secure (row .form) (port reg) (port′ reg) glock-same (stored-same (row .place)))
 
   -- where it is refused
   refused-same : Alike Same G (withWord g iasrAt (withBit 32 (g .iasr) 0 true)) (withWord g′ iasrAt (withBit 32 (g′ .iasr) 0 true))
   refused-same = word-alike iasrAt (same-refl 0 0) same (same-set (G .iasr) (g .iasr) (g′ .iasr) 0 (same .iasr))
 
-  pub stepped-same : (there : Bool) (q : Request)
-      → (stepped there n g q .answer ≡ stepped there n g′ q .answer) × Alike Same G (stepped there n g q .next) (stepped there n g′ q .next)
-  unfolding stepped accessed portIn
-  stepped-same there q =
-      let reg = registerAt n (q .offset) in
-      let e = answer-same there reg (register-own n (q .offset)) q in
-      (e, rw e (go (answerOf there (rowOf reg) (port′ reg) q) (q .write)))
-    where
-      go : (a : Answer) (w : Bool) → Alike Same G (leaves a w g (registerAt n (q .offset)) q) (leaves a w g′ (registerAt n (q .offset)) q)
-      go (Done v) true = written-same (registerAt n (q .offset)) (register-own n (q .offset)) (q .value) (q .secure)
-      go (Done v) false = same
-      go (Refused v) w = refused-same
-      go (Rejected why) w = same
+pub stepped-same : (shape : Shape) {G g g′ : Guard} → Has (shape .regions) G → Alike Same G g g′ → (q : Request)
+    → (stepped shape g q .answer ≡ stepped shape g′ q .answer) × Alike Same G (stepped shape g q .next) (stepped shape g′ q .next)
+unfolding stepped accessed portIn
+stepped-same shape {G} {g} {g′} has same q =
+    let e = answer-same has same shape reg own q in
+    (e, rw e (go (answerOf shape (rowOf reg) (portIn (guardWords g′) (rowOf reg)) q) (q .write)))
+  where
+    reg : Register
+    reg = registerAt (shape .regions) (q .offset)
+
+    own : PlacedIn (shape .regions) reg
+    own = register-own (shape .regions) (q .offset)
+
+    go : (a : Answer) (w : Bool) → Alike Same G (leaves (shape .granule) a w g reg q) (leaves (shape .granule) a w g′ reg q)
+    go (Done v) true = written-same has same (shape .granule) reg own (q .value) (q .secure)
+    go (Done v) false = same
+    go (Refused v) w = refused-same has same
+    go (Rejected why) w = same

@@ -88,8 +88,8 @@ row-whole Unknown = tt
 pub whole-kept : (named mask x y : ℕ) → Whole named → Within named mask → Kept mask x y
 whole-kept named mask x y all within j l h = absurd (true≢false (sym (within j l (all j l)) ∙ h))
 
-module _ (named mask value : ℕ) (secure : Bool) where
-  pub word-kept : (f : Form) (p : Port) → WholeIn f named → Within named mask → Kept mask (wordIn f named p value secure) (p .word)
+module _ (granule named mask value : ℕ) (secure : Bool) where
+  pub word-kept : (f : Form) (p : Port) → WholeIn f named → Within named mask → Kept mask (wordIn f granule named p value secure) (p .word)
   unfolding wordIn subcfgrWritten
   word-kept form.Kept p all within = kept-refl mask (p .word)
   word-kept form.Taken p all within = kept-merged named mask (p .word) value within
@@ -108,7 +108,7 @@ module _ (named mask value : ℕ) (secure : Bool) where
       (within-not named mask within j l h))
 
   pub word-same : (f : Form) (p p′ : Port) → p .glock ≡ p′ .glock → Same mask (p .word) (p′ .word)
-      → Same mask (wordIn f named p value secure) (wordIn f named p′ value secure)
+      → Same mask (wordIn f granule named p value secure) (wordIn f granule named p′ value secure)
   unfolding wordIn subcfgrWritten
   word-same form.Kept p p′ e r = r
   word-same form.Taken p p′ e r = same-merged named mask (p .word) (p′ .word) value r

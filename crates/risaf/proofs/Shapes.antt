@@ -1,57 +1,53 @@
 -- What holds of each row of the table of guards holds of every guard's shape.
 use mathlib.Core.Bool.{Bool, true, false, _&&_, cond}
 use mathlib.Core.List.{List, [], _∷_}
-use mathlib.Core.Path.{_≡_, refl, sym}
+use mathlib.Core.Path.{_≡_, refl}
 use Prim.Native.Nat.{ℕ, zero, suc, _+_, _^_, _≤_, _<_}
 use native.Mathlib.Omega.{arith}
 use lib.Dec.{eqb, leb, lit≤, lit<}
 use lib.ListN.{length, getD}
 use borrow.Author.Tests.{leb-true, eqb-true}
 use Rattle.regions.specs.Words.{mostRegions}
-use Rattle.risaf.specs.Guards.{GuardRow, guards, guardCount, shaped, flagOf, shapeIn, shapeOf, isGuard}
+use Rattle.access.specs.declared.bus.Bus.the-variants.{Axi}
+use Rattle.risaf.specs.Guards.{GuardRow, guards, guardCount, shaped, noShape, shapeIn, shapeOf}
 use Rattle.risaf.specs.declared.guards.Shape.{Shape}
 
 -- a row past the table's end
 abbrev pub noRow : GuardRow
-noRow = record { number = 0; regions = 0; window = 0 }
+noRow = record { number = 0; regions = 0; window = 0; granule = 0; bus = Axi; flag = 0 }
 
 abbrev rowAt : List GuardRow → ℕ → GuardRow
 rowAt gs i = getD gs i noRow
 
 -- ---- by the rows of a table
 
-module _ (P : Shape → Type 0) (n : ℕ) (none : P (record { there = false; place = 0; regions = 0; window = 0; flag = record { 0 = 0 } })) where
+module _ (P : Shape → Type 0) (n : ℕ) (none : P noShape) where
   by-rows : (gs : List GuardRow) (place : ℕ)
-      → ((i : ℕ) → i < length gs → n ≡ rowAt gs i .number
-      → P (shaped (place + i) (rowAt gs i .regions) (rowAt gs i .window) (flagOf n)))
-      → P (shapeIn gs place n)
+      → ((i : ℕ) → i < length gs → n ≡ rowAt gs i .number → P (shaped (place + i) (rowAt gs i))) → P (shapeIn gs place n)
   unfolding shapeIn
   by-rows [] place each = none
   by-rows (g ∷ gs) place each = go (eqb n (g .number)) refl (by-rows gs (suc place) next)
     where
-      next : (i : ℕ) → i < length gs → n ≡ rowAt gs i .number
-          → P (shaped (suc place + i) (rowAt gs i .regions) (rowAt gs i .window) (flagOf n))
+      next : (i : ℕ) → i < length gs → n ≡ rowAt gs i .number → P (shaped (suc place + i) (rowAt gs i))
       next i h q =
           let s : suc place + i ≡ place + suc i = omega arith in
           rw s (each (suc i) (omega arith) q)
 
       go : (t : Bool) → eqb n (g .number) ≡ t → P (shapeIn gs (suc place) n)
-          → P (cond t (shaped place (g .regions) (g .window) (flagOf n)) (shapeIn gs (suc place) n))
+          → P (cond t (shaped place g) (shapeIn gs (suc place) n))
       go true e rest =
           let z : place ≡ place + 0 = omega arith in
           rw z (each 0 (omega arith) (eqb-true _ _ e))
       go false e rest = rest
 
   -- of guard n
-  pub by-guard : ((i : ℕ) → i < guardCount → n ≡ rowAt guards i .number
-      → P (shaped i (rowAt guards i .regions) (rowAt guards i .window) (flagOf n)))
-      → P (shapeOf n)
+  pub by-guard : ((i : ℕ) → i < guardCount → n ≡ rowAt guards i .number → P (shaped i (rowAt guards i))) → P (shapeOf n)
   unfolding shapeOf
   by-guard each = by-rows guards 0 (λ i h q. let z : 0 + i ≡ i = omega arith in rw z (each i h q))
 
 -- ---- a test that every row passes
 
-every : (GuardRow → Bool) → List GuardRow → Bool
+unfoldable pub every : (GuardRow → Bool) → List GuardRow → Bool
 every t [] = true
 every t (g ∷ gs) = t g && every t gs
 
@@ -63,7 +59,7 @@ and-right : (a b : Bool) → (a && b) ≡ true → b ≡ true
 and-right true b e = e
 and-right false b e = cc
 
-passed : (t : GuardRow → Bool) (gs : List GuardRow) → every t gs ≡ true → (i : ℕ) → i < length gs → t (rowAt gs i) ≡ true
+pub passed : (t : GuardRow → Bool) (gs : List GuardRow) → every t gs ≡ true → (i : ℕ) → i < length gs → t (rowAt gs i) ≡ true
 unfolding every
 passed t [] e i h = absurd (omega arith)
 passed t (g ∷ gs) e zero h = and-left (t g) (every t gs) e

@@ -1,8 +1,9 @@
 -- A guard's registers as stored, where each word lies, and reset: document 01, "Guards".
 use mathlib.Core.List.{List, [], _∷_, _++_}
-use Prim.Native.Nat.{ℕ, zero, suc, _+_, _-_, _*_}
+use Prim.Native.Nat.{ℕ, zero, suc, _+_, _*_}
 use lib.ListN.{getD, set, drop}
 use Rattle.regions.specs.Words.{mostRegions, regionWords}
+use Rattle.risaf.specs.Guards.{lowBits}
 use Rattle.risaf.specs.declared.contents.Guard.{Guard}
 
 -- ---- a guard's words: CR, IASR, IAESR, IADDR, then the regions'
@@ -48,18 +49,18 @@ withWord g place v = guardFrom (set (guardWords g) place v)
 
 -- ---- reset: all 0 but each END, the last byte of the first granule
 
-abbrev pub granule : ℕ
-granule = 4096
+-- Q-6: "reset END is granule less 1"
+abbrev pub endReset : ℕ → ℕ
+endReset granule = lowBits granule
 
-abbrev pub endReset : ℕ
-endReset = granule - 1
+abbrev pub regionReset : ℕ → List ℕ
+regionReset granule =
+    let end = endReset granule in
+    0 ∷ 0 ∷ end ∷ 0 ∷ 0 ∷ 0 ∷ end ∷ 0 ∷ 0 ∷ 0 ∷ end ∷ 0 ∷ []
 
-abbrev pub regionReset : List ℕ
-regionReset = 0 ∷ 0 ∷ endReset ∷ 0 ∷ 0 ∷ 0 ∷ endReset ∷ 0 ∷ 0 ∷ 0 ∷ endReset ∷ 0 ∷ []
+abbrev pub regionsReset : ℕ → ℕ → List ℕ
+regionsReset granule zero = []
+regionsReset granule (suc n) = regionReset granule ++ regionsReset granule n
 
-abbrev pub regionsReset : ℕ → List ℕ
-regionsReset zero = []
-regionsReset (suc n) = regionReset ++ regionsReset n
-
-unfoldable pub reset : Guard
-reset = record { cr = 0; iasr = 0; iaesr = 0; iaddr = 0; regions = regionsReset mostRegions }
+unfoldable pub reset : ℕ → Guard
+reset granule = record { cr = 0; iasr = 0; iaesr = 0; iaddr = 0; regions = regionsReset granule mostRegions }

@@ -1,9 +1,11 @@
--- A memory access to a guard: document 01, the order of its checks, and "A refused memory access sets IAEF"; document 02, Q-5, the reason.
+-- A memory access to a guard: document 01, the order of its checks, and "A refused memory access sets IAEF"; document 02, Q-5, the reason, and Q-6,
+-- "every access counts, and is recorded in IAESR, as CID 0 (a number over 7 still gets 4)".
 use mathlib.Core.Bool.{Bool, true, _&&_, _||_, cond}
 use Prim.Native.Nat.{ℕ, _+_, _*_, _%_}
 use lib.Dec.{ltb, eqb}
 use Rattle.words.specs.Bit.{bit, one, merged, withBit}
 use Rattle.access.specs.Answer.{left}
+use Rattle.access.specs.Bus.{heard}
 use Rattle.access.specs.Checks.{answered, answeredWith}
 use Rattle.access.specs.Kind.{isCid}
 use Rattle.access.specs.declared.answer.Answer.{Answer}
@@ -67,7 +69,8 @@ withFaults g f = record { cr = g .cr; iasr = f .iasr; iaesr = f .iaesr; iaddr = 
 unfoldable pub faulted : Guard → ℕ → Kind → Guard
 faulted g o k = withFaults g (recordedFault (faultsOf g) o k)
 
+-- a CID over 7 is looked at as given; the rules, and IAESR, have the asking as the bus hears it
 unfoldable pub memoryStepped : Bool → Shape → Guard → ℕ → ℕ → Kind → Stepped
 memoryStepped there shape g o width k =
-    let a = memoryAnswer there shape o width k (decided (g .regions) (shape .regions) o k) in
-    record { next = left a g g (faulted g o k); answer = a }
+    let a = memoryAnswer there shape o width k (decided (shape .bus) (g .regions) (shape .regions) o k) in
+    record { next = left a g g (faulted g o (heard (shape .bus) k)); answer = a }

@@ -1,23 +1,27 @@
--- A register access to a guard: document 01, "Register rights". The port always speaks as compartment 1.
+-- A register access to a guard: document 01, "Register rights".
 use mathlib.Core.Bool.{Bool, true, false, not, _&&_, _||_, cond}
 use mathlib.Core.List.{List}
-use Prim.Native.Nat.{ℕ, _+_, _-_, _*_, _/_, _%_}
+use Prim.Native.Nat.{ℕ, _%_}
 use lib.Dec.{eqb}
 use lib.ListN.{getD}
-use Rattle.words.specs.Bit.{bit, word, field, masked, merged, withBit}
+use Rattle.words.specs.Bit.{bit, word, field, masked, less, merged, united, withBit}
 use Rattle.access.specs.Answer.{left}
 use Rattle.access.specs.Checks.{answered}
 use Rattle.access.specs.Kind.{equals}
 use Rattle.access.specs.Request.{gives}
 use Rattle.access.specs.declared.answer.Answer.{Answer}
+use Rattle.access.specs.declared.bus.Bus.{Bus}
+use Rattle.access.specs.declared.bus.Bus.the-variants.{Axi, Ahb}
 use Rattle.access.specs.declared.checks.Checks.{Checks}
 use Rattle.access.specs.declared.kind.Cid.{Cid}
 use Rattle.access.specs.declared.request.Request.{Request}
 use Rattle.regions.specs.Words.{secBit}
-use Rattle.risaf.specs.Contents.{crAt, iasrAt, granule, guardWords, withWord}
+use Rattle.risaf.specs.Contents.{crAt, iasrAt, guardWords, withWord}
+use Rattle.risaf.specs.Guards.{lowBits}
 use Rattle.risaf.specs.Registers.{registerAt}
 use Rattle.risaf.specs.Rows.{rowOf}
 use Rattle.risaf.specs.declared.contents.Guard.{Guard}
+use Rattle.risaf.specs.declared.guards.Shape.{Shape}
 use Rattle.risaf.specs.declared.port.Accessed.{Accessed}
 use Rattle.risaf.specs.declared.port.Port.{Port}
 use Rattle.risaf.specs.declared.rows.Form.{Form}
@@ -46,22 +50,24 @@ readOf row old = masked 32 old (row .named)
 
 -- ---- rights
 
--- the port's compartment, and the one that a NEST delegates to (DCCID, 6:4)
-abbrev pub portCid : Cid
-portCid = record { 0 = 1 }
+-- the compartment that the port always speaks as; on AHB, which carries none, it is 0 (Q-6: "the delegated compartment must be 0")
+abbrev pub portCid : Bus → Cid
+portCid Axi = record { 0 = 1 }
+portCid Ahb = record { 0 = 0 }
 
+-- the compartment that a NEST delegates to (DCCID, 6:4)
 abbrev pub dccid : ℕ → Cid
 dccid nest = record { 0 = field nest 4 3 }
 
--- a subregion's CFGR, START and END: with DCEN (2) 0, secure; with DCEN 1, DCCID is 1 and secure or the base's SEC is 0
-unfoldable pub delegated : Port → Bool → Bool
-delegated p secure =
-    cond (bit (p .nest) 2) (equals (dccid (p .nest)) portCid && (secure || not (bit (p .base) secBit))) secure
+-- a subregion's CFGR, START and END: with DCEN (2) 0, secure; with DCEN 1, DCCID is the port's and secure or the base's SEC is 0
+unfoldable pub delegated : Bus → Port → Bool → Bool
+delegated bus p secure =
+    cond (bit (p .nest) 2) (equals (dccid (p .nest)) (portCid bus) && (secure || not (bit (p .base) secBit))) secure
 
 -- a write needs privileged, and secure but for what is delegated; the fault registers need both to read too
-unfoldable pub allowedOf : Row → Port → Request → Bool
-allowedOf row p q =
-    cond (q .write) (q .privileged && cond (row .delegable) (delegated p (q .secure)) (q .secure))
+unfoldable pub allowedOf : Bus → Row → Port → Request → Bool
+allowedOf bus row p q =
+    cond (q .write) (q .privileged && cond (row .delegable) (delegated bus p (q .secure)) (q .secure))
     (not (row .guarded) || q .secure && q .privileged)
 
 -- ---- locks: GLOCK; RLOCK (1) of the subregion
@@ -83,36 +89,36 @@ subcfgrWritten named p value secure =
     word 32
     (λ i. cond (bitIf named 1 (p .glock) i && (secure || not (eqb i secBit))) (bit value i) (bit (p .word) i))
 
--- as the row says: GLOCK is set by 1 and not cleared by 0, IACR's 1 clears, START lies on a granule, END at the end of one
-unfoldable pub wordIn : Form → ℕ → Port → ℕ → Bool → ℕ
-wordIn Kept named p value secure = p .word
-wordIn Taken named p value secure = merged 32 (p .word) value named
-wordIn SetByOne named p value secure = word 32 (λ i. bit (p .word) i || bit named i && bit value i)
-wordIn ClearedByOne named p value secure = word 32 (λ i. bit (p .word) i && not (bit named i && bit value i))
-wordIn GranuleStart named p value secure = value / granule * granule
-wordIn GranuleEnd named p value secure = value / granule * granule + (granule - 1)
-wordIn SubregionCfgr named p value secure = subcfgrWritten named p value secure
+-- as the row says: GLOCK is set by 1 and not cleared by 0, IACR's 1 clears; START clears the bits within a granule, END sets them
+unfoldable pub wordIn : Form → ℕ → ℕ → Port → ℕ → Bool → ℕ
+wordIn Kept granule named p value secure = p .word
+wordIn Taken granule named p value secure = merged 32 (p .word) value named
+wordIn SetByOne granule named p value secure = word 32 (λ i. bit (p .word) i || bit named i && bit value i)
+wordIn ClearedByOne granule named p value secure = word 32 (λ i. bit (p .word) i && not (bit named i && bit value i))
+wordIn GranuleStart granule named p value secure = less 32 value (lowBits granule)
+wordIn GranuleEnd granule named p value secure = united 32 value (lowBits granule)
+wordIn SubregionCfgr granule named p value secure = subcfgrWritten named p value secure
 
-abbrev pub wordWritten : Row → Port → ℕ → Bool → ℕ
-wordWritten row p value secure = wordIn (row .form) (row .named) p value secure
+abbrev pub wordWritten : ℕ → Row → Port → ℕ → Bool → ℕ
+wordWritten granule row p value secure = wordIn (row .form) granule (row .named) p value secure
 
--- ---- the checks, in their order; there says whether the guard is one there is
+-- ---- the checks, in their order
 
-unfoldable pub checksOf : Bool → Row → Port → Request → Checks
-checksOf there row p q =
+unfoldable pub checksOf : Shape → Row → Port → Request → Checks
+checksOf shape row p q =
     record {
-      present = there;
+      present = shape .there;
       aligned = eqb (q .offset % 4) 0;
       inside = true;
       fetchless = true;
       known = row .known;
-      allowed = allowedOf row p q;
+      allowed = allowedOf (shape .bus) row p q;
       direction = cond (q .write) (row .writable) (row .readable);
       unlocked = not (q .write) || not (lockedOf (row .lock) p);
     }
 
-unfoldable pub answerOf : Bool → Row → Port → Request → Answer
-answerOf there row p q = answered (checksOf there row p q) (gives q (readOf row (p .word)))
+unfoldable pub answerOf : Shape → Row → Port → Request → Answer
+answerOf shape row p q = answered (checksOf shape row p q) (gives q (readOf row (p .word)))
 
 -- ---- what an access leaves
 
@@ -132,24 +138,25 @@ refusedPort p =
       word = p .word;
     }
 
-unfoldable pub accessed : Bool → Row → Port → Request → Accessed
-accessed there row p q =
-    let a = answerOf there row p q in
+unfoldable pub accessed : Shape → Row → Port → Request → Accessed
+accessed shape row p q =
+    let a = answerOf shape row p q in
+    let w = wordWritten (shape .granule) row p (q .value) (q .secure) in
     record {
-      next = left a p (cond (q .write) (withPortWord p (wordWritten row p (q .value) (q .secure))) p) (refusedPort p);
+      next = left a p (cond (q .write) (withPortWord p w) p) (refusedPort p);
       answer = a;
     }
 
--- ---- of the whole guard, with n base regions: the register's word is another where a write is done, IASR where the access is refused
+-- ---- of the whole guard: the register's word is another where a write is done, IASR where the access is refused
 
 pub record Stepped : Type 0 where
   pub next : Guard
   pub answer : Answer
 
-unfoldable pub stepped : Bool → ℕ → Guard → Request → Stepped
-stepped there n g q =
-    let row = rowOf (registerAt n (q .offset)) in
-    let r = accessed there row (portIn (guardWords g) row) q in
+unfoldable pub stepped : Shape → Guard → Request → Stepped
+stepped shape g q =
+    let row = rowOf (registerAt (shape .regions) (q .offset)) in
+    let r = accessed shape row (portIn (guardWords g) row) q in
     record {
       next =
           left (r .answer) g (cond (q .write) (withWord g (row .place) (r .next .word)) g)

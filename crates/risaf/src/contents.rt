@@ -1,3 +1,4 @@
+use crate::guards::low_bits;
 use regions::places::END;
 use regions::places::MOST_REGIONS;
 use regions::places::REGION_WORDS;
@@ -20,9 +21,6 @@ pub const REGIONS_WORDS: usize = MOST_REGIONS * REGION_WORDS;
 
 pub const GUARD_WORDS: usize = HEAD_WORDS + REGIONS_WORDS;
 
-// START and END lie on a granule's boundaries.
-pub(crate) const GRANULE: u32 = 4096;
-
 // A guard's registers as stored, whole words. The regions lie one after the other, as regions::places has it. There is room for the
 // most regions, whatever the guard's own count.
 pub struct Guard {
@@ -35,12 +33,13 @@ pub struct Guard {
 
 impl Guard {
     // All 0 but each END, the last byte of the first granule. A base region's words and a subregion's are as many.
-    pub fn reset() -> Self
-        ensures { λ r. ⌜ r ≡ reset ⌝ }
+    pub fn reset(granule: u32) -> Self
+        ensures { λ r. ⌜ r ≡ reset granule ⌝ }
     {
+        let end = low_bits(granule);
         let mut regions = [0; REGIONS_WORDS];
         for i in 0..REGIONS_WORDS / SUBREGION_WORDS {
-            regions[SUBREGION_WORDS * i + END] = GRANULE - 1;
+            regions[SUBREGION_WORDS * i + END] = end;
         }
         Guard {
             cr: 0,

@@ -14,6 +14,7 @@ pub use contents::IAESR;
 pub use contents::IASR;
 pub use contents::REGIONS_WORDS;
 pub use guards::GUARD_COUNT;
+pub use guards::GUARD_NUMBERS;
 pub use guards::GuardNumber;
 pub use guards::Shape;
 pub use memory::Faults;

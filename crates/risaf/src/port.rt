@@ -1,10 +1,12 @@
 use crate::contents::CR;
-use crate::contents::GRANULE;
 use crate::contents::IASR;
+use crate::guards::Shape;
+use crate::guards::low_bits;
 use crate::rows::Form;
 use crate::rows::Lock;
 use crate::rows::Row;
 use access::Answer;
+use access::Bus;
 use access::Checks;
 use access::Cid;
 use access::Request;
@@ -22,6 +24,7 @@ ghost use Rattle.risaf.specs.Port.{
   bitIf,
   delegated,
   lockedOf,
+  portCid,
   portIn,
   subcfgrWritten,
   wordWritten,
@@ -46,9 +49,6 @@ pub struct Accessed {
     pub answer: Answer,
 }
 
-// The port always speaks as this compartment.
-const PORT: Cid = Cid(1);
-
 // Bits of NEST, of a subregion's CFGR, and of IASR.
 const DCEN: u32 = 2;
 
@@ -65,23 +65,33 @@ fn word_in(w: &[u32], at: usize) -> u32
     if at < w.len() { w[at] } else { 0 }
 }
 
+// The compartment that the port always speaks as. AHB carries none.
+fn port_cid(bus: Bus) -> Cid
+    ensures { λ r. ⌜ r ≡ portCid bus ⌝ }
+{
+    match bus {
+        Bus::Axi => Cid(1),
+        Bus::Ahb => Cid(0),
+    }
+}
+
 // A subregion's CFGR, START and END: with DCEN 0, secure; with DCEN 1, DCCID is the port's and secure or the base's SEC is 0.
-fn delegated(p: Port, secure: bool) -> bool
-    ensures { λ r. ⌜ r ≡ delegated p secure ⌝ }
+fn delegated(bus: Bus, p: Port, secure: bool) -> bool
+    ensures { λ r. ⌜ r ≡ delegated bus p secure ⌝ }
 {
     if (p.nest >> DCEN) % 2 == 1 {
         let dccid = Cid((p.nest >> DCCID) % COMPARTMENTS);
-        return dccid.equals(PORT) & (secure | !((p.base >> SEC) % 2 == 1));
+        return dccid.equals(port_cid(bus)) & (secure | !((p.base >> SEC) % 2 == 1));
     }
     secure
 }
 
 // The rights suffice for a write.
-fn may_write(row: Row, p: Port, q: Request) -> bool
-    ensures { λ r. ⌜ r ≡ (q .privileged && cond (row .delegable) (delegated p (q .secure)) (q .secure)) ⌝ }
+fn may_write(bus: Bus, row: Row, p: Port, q: Request) -> bool
+    ensures { λ r. ⌜ r ≡ (q .privileged && cond (row .delegable) (delegated bus p (q .secure)) (q .secure)) ⌝ }
 {
     if row.delegable {
-        return q.privileged & delegated(p, q.secure);
+        return q.privileged & delegated(bus, p, q.secure);
     }
     q.privileged & q.secure
 }
@@ -121,18 +131,19 @@ fn checks(
 }
 
 // The answer to an access to the register with this row.
-fn answer(there: bool, row: Row, p: Port, q: Request) -> Answer
-    ensures { λ r. ⌜ r ≡ answerOf there row p q ⌝ }
+fn answer(shape: Shape, row: Row, p: Port, q: Request) -> Answer
+    ensures { λ r. ⌜ r ≡ answerOf shape row p q ⌝ }
 {
     if q.write {
+        let bus = shape.bus;
         let lock = row.lock;
-        let allowed = may_write(row, p, q);
+        let allowed = may_write(bus, row, p, q);
         let unlocked = !locked(lock, p);
-        return checks(there, row, q.offset, allowed, row.writable, unlocked).answer(0);
+        return checks(shape.there, row, q.offset, allowed, row.writable, unlocked).answer(0);
     }
     let allowed = !row.guarded | (q.secure & q.privileged);
     let read = words::masked(p.word, row.named);
-    checks(there, row, q.offset, allowed, row.readable, true).answer(read)
+    checks(shape.there, row, q.offset, allowed, row.readable, true).answer(read)
 }
 
 // The bits, but bit k only where it may be.
@@ -154,8 +165,8 @@ fn sub_cfgr_written(named: u32, p: Port, value: u32, secure: bool) -> u32
 }
 
 // The word that a write leaves.
-fn word_written(row: Row, p: Port, value: u32, secure: bool) -> u32
-    ensures { λ r. ⌜ r ≡ wordWritten row p value secure ⌝ }
+fn word_written(granule: u32, row: Row, p: Port, value: u32, secure: bool) -> u32
+    ensures { λ r. ⌜ r ≡ wordWritten granule row p value secure ⌝ }
 {
     let form = row.form;
     match form {
@@ -163,8 +174,8 @@ fn word_written(row: Row, p: Port, value: u32, secure: bool) -> u32
         Form::Taken => words::merge(p.word, value, row.named),
         Form::SetByOne => words::united(p.word, words::masked(value, row.named)),
         Form::ClearedByOne => words::without(p.word, words::masked(value, row.named)),
-        Form::GranuleStart => value / GRANULE * GRANULE,
-        Form::GranuleEnd => value / GRANULE * GRANULE + (GRANULE - 1),
+        Form::GranuleStart => words::without(value, low_bits(granule)),
+        Form::GranuleEnd => words::united(value, low_bits(granule)),
         Form::SubregionCfgr => sub_cfgr_written(row.named, p, value, secure),
     }
 }
@@ -185,14 +196,14 @@ impl Port {
     }
 
     // An access to the register with this row. A write that is done leaves another word, a refused access sets CAEF.
-    pub fn access(mut self, there: bool, row: Row, q: Request) -> Accessed
-        ensures { λ r. ⌜ r ≡ accessed there row self q ⌝ }
+    pub fn access(mut self, shape: Shape, row: Row, q: Request) -> Accessed
+        ensures { λ r. ⌜ r ≡ accessed shape row self q ⌝ }
     {
-        let answer = answer(there, row, self, q);
+        let answer = answer(shape, row, self, q);
         match answer {
             Answer::Done(_) => {
                 if q.write {
-                    let word = word_written(row, self, q.value, q.secure);
+                    let word = word_written(shape.granule, row, self, q.value, q.secure);
                     self.word = word;
                 }
             }

@@ -6,7 +6,7 @@ use Prim.Native.Nat.{ℕ}
 use lib.Dec.{eqb}
 use borrow.Author.Tests.{eqb-true}
 use Rattle.access.specs.Answer.{numberOf, valueOf}
-use Rattle.words.specs.Bit.{one, masked, merged, united, withBit}
+use Rattle.words.specs.Bit.{one, masked, less, merged, united, withBit}
 use Rattle.access.specs.Checks.{answeredWith, reachedWith}
 use Rattle.rifsc.specs.Registers.{registerAt as rifsc-registerAt, ppsr, rowOf as rifsc-rowOf}
 use Rattle.rifsc.specs.Contents.{stored as rifsc-stored, withStored as rifsc-withStored, seen as rifsc-seen, reset as rifsc-reset}
@@ -97,7 +97,7 @@ hold (x ∷ xs) h = let p = both _ _ h in (holds x resetState (p .0), hold xs (p
 -- ---- the examples, and the wrong readings
 
 passed : (pass worked ≡ true) × (pass readings ≡ true)
-unfolding pass passes same swept worked readings flat sweptMap sweepFrom nextOf boundsOf join pairsOf rightsOf rightsWord masked merged united withBit answeredWith reachedWith rifsc-registerAt ppsr rifsc-rowOf rifsc-stored rifsc-withStored rifsc-seen rifsc-reset rifsc-readOf takes rifsc-wordWritten rifsc-checksOf rifsc-answerOf rifsc-written rifsc-stepped iac-registerAt iisr iac-rowOf iac-stored iac-withWord freshOf freshAt fresh changesAt changed withCount held iac-reset iac-readOf iac-checksOf iac-answerOf iac-wordWritten iac-written iac-stepped flagSet raise shapeIn shapeOf regionAt subRegister regionRegister registerAt ofHead ofBase ofSub rowOf withWord reset portIn readOf delegated allowedOf subcfgrWritten wordIn checksOf answerOf accessed stepped decided tests memoryChecks memoryAnswer recordedFault faulted memoryStepped guardOf withGuard resetState registerStep peripheralStep exists filterOf grants isMaster guardingOf attributesOf carried memoryStep step
+unfolding pass passes same swept worked readings flat sweptMap sweepFrom nextOf boundsOf join pairsOf rightsOf rightsWord masked less merged united withBit answeredWith reachedWith rifsc-registerAt ppsr rifsc-rowOf rifsc-stored rifsc-withStored rifsc-seen rifsc-reset rifsc-readOf takes rifsc-wordWritten rifsc-checksOf rifsc-answerOf rifsc-written rifsc-stepped iac-registerAt iisr iac-rowOf iac-stored iac-withWord freshOf freshAt fresh changesAt changed withCount held iac-reset iac-readOf iac-checksOf iac-answerOf iac-wordWritten iac-written iac-stepped flagSet raise shapeIn shapeOf regionAt subRegister regionRegister registerAt ofHead ofBase ofSub rowOf withWord reset portIn readOf delegated allowedOf subcfgrWritten wordIn checksOf answerOf accessed stepped decided tests memoryChecks memoryAnswer recordedFault faulted memoryStepped guardOf withGuard resetState registerStep peripheralStep exists filterOf grants isMaster guardingOf attributesOf carried memoryStep step
 passed = (refl, refl)
 
 pub all-hold : AllHold worked

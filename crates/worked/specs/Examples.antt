@@ -9,6 +9,13 @@ use Rattle.worked.specs.Example.{Line, gives, prints, keeps, handed, rea
 abbrev pub guard2 : Block
 guard2 = Risaf (record { 0 = 2 })
 
+-- of the guards on AHB, whose registers lie as guard 2's
+abbrev pub guard15 : Block
+guard15 = Risaf (record { 0 = 15 })
+
+abbrev pub guard21 : Block
+guard21 = Risaf (record { 0 = 21 })
+
 -- W1 to W4 name no width: they stand for each
 
 -- guard 2, offset 0, read, CID 1 secure privileged: 0, rule 0
@@ -177,6 +184,51 @@ q4Modulo =
     ∷ keeps 1 255
     ∷ []
 
+-- Q-6: the untouched row of guard 15
+abbrev pub q6Untouched : List Line
+q6Untouched = prints 15 (0x000 ∷ 0xfff ∷ 0xffff_0000_0000_0000 ∷ []) ∷ []
+
+-- CID 5 counts as CID 0, which may read guard 15's region 1: granted by rule 1. Its write is refused, for the direction, and IAESR has CID 0;
+-- so is CID 7's, which is no debugger there; CID 8 gets 4
+abbrev pub q6Counted : List Line
+q6Counted =
+    gives (writes guard15 0x048 0x0000_0fff true true) 0 0
+    ∷ gives (writes guard15 0x04c 0x0000_0001 true true) 0 0
+    ∷ gives (writes guard15 0x040 0x0000_0001 true true) 0 0
+    ∷ gives (asks 15 0 false 5 false true) 0 1
+    ∷ gives (asks 15 0 true 5 false true) 1 3
+    ∷ gives (reads guard15 0x020 true true) 0 0x0000_0090
+    ∷ gives (asks 15 0 true 7 false true) 1 3
+    ∷ gives (asks 15 0 false 8 false true) 4 0
+    ∷ []
+
+-- the flag of a guard: ISR4 after a refused access to it
+abbrev pub q6Flag : ℕ → ℕ → List Line
+q6Flag n isr4 = gives (asks n 0 false 1 false true) 1 1 ∷ gives (reads Iac 0x090 true true) 0 isr4 ∷ []
+
+-- START and END at granule 4, and at 512
+abbrev pub q6Granules : List Line
+q6Granules =
+    gives (writes guard15 0x044 0x0000_0013 true true) 0 0
+    ∷ gives (reads guard15 0x044 true true) 0 0x0000_0010
+    ∷ gives (writes guard15 0x048 0x0000_0010 true true) 0 0
+    ∷ gives (reads guard15 0x048 true true) 0 0x0000_0013
+    ∷ gives (writes guard21 0x044 0x0000_03ff true true) 0 0
+    ∷ gives (reads guard21 0x044 true true) 0 0x0000_0200
+    ∷ gives (writes guard21 0x048 0x0000_0400 true true) 0 0
+    ∷ gives (reads guard21 0x048 true true) 0 0x0000_05ff
+    ∷ []
+
+-- a nonsecure write to A's START with DCEN 1: taken where DCCID is 0, refused where it is 1
+abbrev pub q6Delegated : List Line
+q6Delegated =
+    gives (writes guard15 0x05c 0x0000_0004 true true) 0 0
+    ∷ gives (writes guard15 0x054 0x0000_0010 false true) 0 0
+    ∷ gives (writes guard15 0x05c 0x0000_0014 true true) 0 0
+    ∷ gives (writes guard15 0x054 0x0000_0020 false true) 1 0
+    ∷ gives (reads guard15 0x054 false true) 0 0x0000_0010
+    ∷ []
+
 unfoldable pub worked : List (List Line)
 worked =
     w1 1 ∷ w2 1 ∷ w3 1 ∷ w4 1 ∷ w5 ∷ w6 ∷ w7 ∷ w8 ∷ w9 ∷ w10 ∷ w11 ∷ w12 ∷ w13 ∷ w14
@@ -188,4 +240,7 @@ worked =
     ∷ q2Clear 1 ∷ q2Set 1 ∷ q2Clear 2 ∷ q2Set 2 ∷ q2Clear 4 ∷ q2Set 4
     -- Q-4
     ∷ q4Kept ∷ q4Handed ∷ q4Modulo
+    -- Q-6
+    ∷ q6Untouched ∷ q6Counted ∷ q6Flag 15 0x0200_0000 ∷ q6Flag 21 0x0800_0000 ∷ q6Flag 22 0x1000_0000 ∷ q6Flag 23 0x2000_0000
+    ∷ q6Granules ∷ q6Delegated
     ∷ []

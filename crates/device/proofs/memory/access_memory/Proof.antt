@@ -35,20 +35,26 @@ returns-2 c =
 
 load-faults-requires : tie.Need-load-faults-requires
 load-faults-requires c κs =
-    let g = c .before .before .before .before .before .before .before .before .before .before in
+    let g = c .before .before .before .before .before .before .before .before .before .before .before in
     (g .before .before .pre, rw (g .shape .ensures) (place-lt _))
 
 store-faults-requires : tie.Need-store-faults-requires
 store-faults-requires c κs =
-    let g = c .before .before .before .before .before .before .before .before .before .before .before .before .before in
+    let g = c .before .before .before .before .before .before .before .before .before .before .before .before .before .before in
     (g .before .before .pre, rw (g .shape .ensures) (place-lt _))
+
+raise-requires : tie.Need-raise-requires
+raise-requires c κs =
+    let s = c .before .before .before .before .before .before .before .before .before .before .before .before .before .before .before .before .before .before .before .before in
+    search (needs, s .pre)
 
 returns-3 : tie.Need-returns-3
 unfolding faulted
 returns-3 c =
     let f = c .before .before .before .before .before .before in
     let r = f .before .before in
-    let b = r .before .before .before in
+    let h = r .before .before .before in
+    let b = h .before in
     let d = b .before .before in
     let e = d .before .before .before in
     let g = e .before .before .before .before in
@@ -60,11 +66,11 @@ returns-3 c =
     memory-refused (stateOf (a .state .now)) (a .there) (a .guard .0) (a .o) (a .width) (a .k) es (e .before .before .memory-checked .ensures)
     (e .enum-told .given .1) ew (ap length ew ∙ regions-length (a .state .now) _ (s .pre) l) (d .decide .ensures) (b .if1 .left)
     (c .before .before .raise .ensures
-    ∙ ap (flagged _) (f .store-faults .ensures ∙ rw (r .recorded .ensures, r .before .load-faults .ensures)))
+    ∙ ap (flagged _) (f .store-faults .ensures ∙ rw (r .recorded .ensures, h .hears .ensures, r .before .load-faults .ensures)))
 
 pub access-memory-spec : {M : Type 1} → statement M
 access-memory-spec =
     tie.close
     (tie.spec (λ c κs. search needs) (λ c κs. search needs) (λ c. search needs) returns (λ c κs. search needs)
-    (λ c κs. search needs) (λ c. search needs) returns-2 load-faults-requires (λ c κs. search needs) store-faults-requires
-    (λ c κs. search needs) (λ c. search needs) returns-3)
+    (λ c κs. search needs) (λ c. search needs) returns-2 (λ c κs. search needs) load-faults-requires (λ c κs. search needs)
+    store-faults-requires raise-requires (λ c. search needs) returns-3)

@@ -46,7 +46,7 @@ mul-used c =
     omega (
       arith,
       c .before .before .sweep .ensures .0,
-      size-most (now (c .before .before .before .before .region-words .result)) (s .result .regions) (s .result .window) (rw (s .ensures) (small n .0)),
+      size-most (s .result .bus) (now (c .before .before .before .before .region-words .result)) (s .result .regions) (s .result .window) (rw (s .ensures) (small n .0)),
     )
 
 returns-4 : tie.Need-returns-4

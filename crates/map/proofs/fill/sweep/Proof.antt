@@ -16,10 +16,10 @@ use Rattle.map.proofs.fill.sweep.Statement.{statement}
 use Rattle.map.proofs.fill.sweep.Tie as tie
 
 abbrev Inv-loop : tie.InvT-loop
-Inv-loop w n window lent₀ at₀ count₀ lent at count = Swept (rightsWord w n) (boundsOf (pairsOf w n)) window lent₀ at count lent
+Inv-loop bus w n window lent₀ at₀ count₀ lent at count = Swept (rightsWord bus w n) (boundsOf (pairsOf w n)) window lent₀ at count lent
 
 abbrev μ-loop : tie.MeasureT-loop
-μ-loop w n window lent₀ at₀ count₀ lent at count = window - at
+μ-loop bus w n window lent₀ at₀ count₀ lent at count = window - at
 
 loop-holds : tie.Need-loop-holds Inv-loop μ-loop
 loop-holds c = swept-begin _ _ _ _
@@ -28,11 +28,11 @@ loop-holds c = swept-begin _ _ _ _
 goes : (s : tie.After-stretch-at Inv-loop μ-loop)
     → let l = s .before .before in
     let a = l .before .before .before .args in
-    Turn (rightsWord (now (a .w)) (a .n)) (boundsOf (pairsOf (now (a .w)) (a .n))) (a .window) (l .loop .at) (s .stretch-at .result .to)
+    Turn (rightsWord (a .bus) (now (a .w)) (a .n)) (boundsOf (pairsOf (now (a .w)) (a .n))) (a .window) (l .loop .at) (s .stretch-at .result .to)
 goes s =
     let l = s .before .before in
     let b = l .before .before .before in
-    turn (now (b .args .w)) (b .args .n) (b .args .window) (l .loop .at) (b .pre .0) (b .pre .1) (s .before .loop-test .taken)
+    turn (b .args .bus) (now (b .args .w)) (b .args .n) (b .args .window) (l .loop .at) (b .pre .0) (b .pre .1) (s .before .loop-test .taken)
     (s .stretch-at .ensures .1)
 
 sub-put : tie.Need-sub-put Inv-loop μ-loop
@@ -50,7 +50,7 @@ loop-again c =
     let l = s .before .before in
     let b = l .before .before .before in
     swept-turn (l .loop .inv) (omega (arith, bounds-most (now (b .args .w)) (b .args .n) (b .pre .0))) (s .before .loop-test .taken) (goes s)
-    (s .stretch-at .ensures .0 ∙ rights-enough _ _ _ (b .pre .0) (b .pre .1)) (p .ensures .0) (p .ensures .1)
+    (s .stretch-at .ensures .0 ∙ rights-enough _ _ _ _ (b .pre .0) (b .pre .1)) (p .ensures .0) (p .ensures .1)
 
 same-length : tie.Need-same-length Inv-loop μ-loop
 same-length c = c .before .loop .inv .long

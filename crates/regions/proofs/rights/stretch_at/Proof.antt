@@ -1,7 +1,7 @@
 use mathlib.Core.Path.{refl, ap, _∙_}
 use borrow.Author.Needs.{needs}
 use borrow.Author.Tests.{lt-leb, le-leb}
-use Rattle.regions.specs.Admits.{rightsFrom, byMasks}
+use Rattle.regions.specs.Admits.{asHeard, rightsFrom, byMasks}
 use Rattle.regions.specs.Ahead.{aheadIn}
 use Rattle.regions.specs.Lent.{rightsIn}
 use Rattle.regions.specs.declared.admits.Admits.{Admits}
@@ -21,14 +21,17 @@ returns-2 c = simp (le-leb _ _ (c .before .if1 .left), lt-leb _ _ (c .if2 .taken
 returns-3 : tie.Need-returns-3
 unfolding rightsIn aheadIn
 returns-3 c =
-    let g = c .before .before in
+    let g = c .before .before .before in
     let b = g .before in
     let a = b .before .before .before .args in
     let s = g .scanned .ensures in
     simp (le-leb _ _ (b .before .if1 .left), le-leb _ _ (b .if2 .left)) (
       c .word .ensures
-          ∙ ap (λ (x : Admits). rightsFrom x 0 64) (c .before .by-masks .ensures ∙ ap byMasks (s .0) ∙ masks-found (a .w .now) (a .n) (a .o))
-          ∙ rights-admitted (a .w .now) (a .n) (a .o),
+          ∙ ap (λ (x : Admits). rightsFrom x 0 64)
+          (c .before .as-heard .ensures
+          ∙ ap (asHeard (a .bus))
+          (c .before .before .by-masks .ensures ∙ ap (byMasks (a .bus)) (s .0) ∙ masks-found (a .bus) (a .w .now) (a .n) (a .o)))
+          ∙ rights-admitted (a .bus) (a .w .now) (a .n) (a .o),
       s .1,
     )
 
@@ -36,4 +39,4 @@ pub stretch-at-spec : {M : Type 1} → statement M
 stretch-at-spec =
     tie.close
     (tie.spec returns (λ c. search needs) returns-2 (λ c κs. search needs) (λ c κs. search needs) (λ c κs. search needs)
-    returns-3)
+    (λ c κs. search needs) returns-3)

@@ -8,8 +8,12 @@ use Rattle.risaf.proofs.port.delegated.Tie as tie
 returns : tie.Need-returns
 unfolding delegated
 returns c =
-    let b = c .before .before .before in
-    simp (eq-eqb (b .before .before .args .p .nest / 2 ^ 2 % 2) 1 (b .if1 .taken), c .before .equals .ensures)
+    let b = c .before .before .before .before in
+    simp (
+      eq-eqb (b .before .before .args .p .nest / 2 ^ 2 % 2) 1 (b .if1 .taken),
+      c .before .equals .ensures,
+      c .before .before .port-cid .ensures,
+    )
 
 returns-2 : tie.Need-returns-2
 unfolding delegated
@@ -18,4 +22,4 @@ returns-2 c = simp (ne-eqb _ _ (c .if1 .left))
 pub delegated-spec : {M : Type 1} → statement M
 delegated-spec =
     tie.close
-    (tie.spec (λ c κs. search needs) returns returns-2)
+    (tie.spec (λ c κs. search needs) (λ c κs. search needs) returns returns-2)

@@ -22,11 +22,11 @@ returns-4 c = simp (c .without .ensures, c .before .masked2 .ensures, c .before 
 
 returns-5 : tie.Need-returns-5
 unfolding wordIn
-returns-5 c = simp (c .enum-told5 .given .1)
+returns-5 c = simp (c .without2 .ensures, c .before .low-bits .ensures, c .before .before .enum-told5 .given .1)
 
 returns-6 : tie.Need-returns-6
 unfolding wordIn
-returns-6 c = simp (c .enum-told6 .given .1)
+returns-6 c = simp (c .united2 .ensures, c .before .low-bits2 .ensures, c .before .before .enum-told6 .given .1)
 
 returns-7 : tie.Need-returns-7
 unfolding wordIn

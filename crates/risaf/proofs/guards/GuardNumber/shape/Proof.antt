@@ -59,32 +59,51 @@ returns-13 c = c .of13 .ensures ∙ sym (ap shapeOf (c .before .match .keys13))
 
 returns-14 : tie.Need-returns-14
 unfolding shapeOf shapeIn
-returns-14 c =
+returns-14 c = c .of14 .ensures ∙ sym (ap shapeOf (c .before .match .keys14))
+
+returns-15 : tie.Need-returns-15
+unfolding shapeOf shapeIn
+returns-15 c = c .of15 .ensures ∙ sym (ap shapeOf (c .before .match .keys15))
+
+returns-16 : tie.Need-returns-16
+unfolding shapeOf shapeIn
+returns-16 c = c .of16 .ensures ∙ sym (ap shapeOf (c .before .match .keys16))
+
+returns-17 : tie.Need-returns-17
+unfolding shapeOf shapeIn
+returns-17 c = c .of17 .ensures ∙ sym (ap shapeOf (c .before .match .keys17))
+
+returns-18 : tie.Need-returns-18
+unfolding shapeOf shapeIn
+returns-18 c =
     let n = c .before .args .self .0 in
     let r = c .match .rest in
     simp (
-      ne-eqb n 1 (r .0 .0 .0 .0 .0 .0 .0 .0 .0 .0 .0 .0 .1),
-      ne-eqb n 2 (r .0 .0 .0 .0 .0 .0 .0 .0 .0 .0 .0 .1),
-      ne-eqb n 3 (r .0 .0 .0 .0 .0 .0 .0 .0 .0 .0 .1),
-      ne-eqb n 4 (r .0 .0 .0 .0 .0 .0 .0 .0 .0 .1),
-      ne-eqb n 5 (r .0 .0 .0 .0 .0 .0 .0 .0 .1),
-      ne-eqb n 6 (r .0 .0 .0 .0 .0 .0 .0 .1),
-      ne-eqb n 7 (r .0 .0 .0 .0 .0 .0 .1),
-      ne-eqb n 8 (r .0 .0 .0 .0 .0 .1),
-      ne-eqb n 9 (r .0 .0 .0 .0 .1),
-      ne-eqb n 11 (r .0 .0 .0 .1),
-      ne-eqb n 12 (r .0 .0 .1),
-      ne-eqb n 13 (r .0 .1),
-      ne-eqb n 14 (r .1),
+      ne-eqb n 1 (r .0 .0 .0 .0 .0 .0 .0 .0 .0 .0 .0 .0 .0 .0 .0 .0 .1),
+      ne-eqb n 2 (r .0 .0 .0 .0 .0 .0 .0 .0 .0 .0 .0 .0 .0 .0 .0 .1),
+      ne-eqb n 3 (r .0 .0 .0 .0 .0 .0 .0 .0 .0 .0 .0 .0 .0 .0 .1),
+      ne-eqb n 4 (r .0 .0 .0 .0 .0 .0 .0 .0 .0 .0 .0 .0 .0 .1),
+      ne-eqb n 5 (r .0 .0 .0 .0 .0 .0 .0 .0 .0 .0 .0 .0 .1),
+      ne-eqb n 6 (r .0 .0 .0 .0 .0 .0 .0 .0 .0 .0 .0 .1),
+      ne-eqb n 7 (r .0 .0 .0 .0 .0 .0 .0 .0 .0 .0 .1),
+      ne-eqb n 8 (r .0 .0 .0 .0 .0 .0 .0 .0 .0 .1),
+      ne-eqb n 9 (r .0 .0 .0 .0 .0 .0 .0 .0 .1),
+      ne-eqb n 11 (r .0 .0 .0 .0 .0 .0 .0 .1),
+      ne-eqb n 12 (r .0 .0 .0 .0 .0 .0 .1),
+      ne-eqb n 13 (r .0 .0 .0 .0 .0 .1),
+      ne-eqb n 14 (r .0 .0 .0 .0 .1),
+      ne-eqb n 15 (r .0 .0 .0 .1),
+      ne-eqb n 21 (r .0 .0 .1),
+      ne-eqb n 22 (r .0 .1),
+      ne-eqb n 23 (r .1),
     )
 
 pub shape-spec : {M : Type 1} → statement M
 shape-spec =
     tie.close
-    (tie.spec (λ c. search needs) (λ c κs. search needs) (λ c. search needs) (λ c κs. search needs)
-    (λ c. search needs) (λ c κs. search needs) (λ c. search needs) (λ c κs. search needs) (λ c. search needs)
-    (λ c κs. search needs) (λ c. search needs) (λ c κs. search needs) (λ c. search needs) (λ c κs. search needs)
-    (λ c. search needs) (λ c κs. search needs) (λ c. search needs) (λ c κs. search needs) (λ c. search needs)
-    (λ c κs. search needs) (λ c. search needs) (λ c κs. search needs) (λ c. search needs) (λ c κs. search needs)
-    (λ c. search needs) (λ c κs. search needs) returns returns-2 returns-3 returns-4 returns-5 returns-6 returns-7
-    returns-8 returns-9 returns-10 returns-11 returns-12 returns-13 returns-14)
+    (tie.spec (λ c κs. search needs) (λ c κs. search needs) (λ c κs. search needs) (λ c κs. search needs)
+    (λ c κs. search needs) (λ c κs. search needs) (λ c κs. search needs) (λ c κs. search needs) (λ c κs. search needs)
+    (λ c κs. search needs) (λ c κs. search needs) (λ c κs. search needs) (λ c κs. search needs) (λ c κs. search needs)
+    (λ c κs. search needs) (λ c κs. search needs) (λ c κs. search needs) returns returns-2 returns-3 returns-4
+    returns-5 returns-6 returns-7 returns-8 returns-9 returns-10 returns-11 returns-12 returns-13 returns-14
+    returns-15 returns-16 returns-17 returns-18)
