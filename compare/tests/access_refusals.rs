@@ -77,7 +77,8 @@ fn memory_refusals_in_order() {
     assert_eq!(try_one(4, u32::MAX, 1, 1), 1);
     let sizes = [(1, 1 << 30), (2, 1 << 20), (3, 1 << 20), (7, 409_600)];
     let more = [(8, 262_144), (9, 131_072), (11, 1 << 28), (14, 1 << 28)];
-    for (guard, size) in sizes.into_iter().chain(more) {
+    let ahb = [(15, 4_096), (21, 16_384), (22, 16_384), (23, 4_096)];
+    for (guard, size) in sizes.into_iter().chain(more).chain(ahb) {
         assert_eq!(try_one(guard, size, 4, 1), 6);
         assert_eq!(try_one(guard, size - 4, 4, 1), 1);
     }

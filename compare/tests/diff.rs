@@ -82,7 +82,8 @@ fn one_row_over_each_window() {
     let small = [(2, 1 << 20), (3, 1 << 20), (7, 409_600), (8, 262_144)];
     let large = [(1, 1 << 30), (4, 1 << 32), (5, 1 << 32), (6, 1 << 32)];
     let rest = [11, 12, 13, 14].map(|guard| (guard, 1 << 28));
-    let windows = [&small[..], &large, &rest, &[(9, 131_072)]].concat();
+    let ahb = [(15, 4_096), (21, 16_384), (22, 16_384), (23, 4_096)];
+    let windows = [&small[..], &large, &rest, &ahb, &[(9, 131_072)]].concat();
     assert_eq!(windows.len(), GUARD_NUMBERS.len());
     for (guard, window) in windows {
         let last = window - 1;
@@ -187,8 +188,8 @@ fn painted(map: &[u64]) -> Vec<u64> {
 fn every_offset_is_where_it_belongs() {
     let mut random = Random::new(1);
     for round in 0..150 {
-        // The guards of the smallest windows: 7, 8 and 9.
-        let shape = &SHAPES[6 + round % 3];
+        // Guards of small windows: 7, 8, 9 and those on the AHB bus.
+        let shape = &SHAPES[[6, 7, 8, 13, 14, 15, 16][round % 7]];
         let (before, after) = pair(&mut random, shape);
         let mut expected: Vec<[u64; 5]> = Vec::new();
         for (offset, (old, new)) in (0..).zip(painted(&before).into_iter().zip(painted(&after))) {

@@ -66,7 +66,7 @@ fn counts() {
         assert_eq!(of_map(&many[..count]), 8);
         // Before 4.
         assert_eq!(number(0, &many[..count], &MAP, ROOM), 8);
-        assert_eq!(number(15, &MAP, &many[..count], ROOM), 8);
+        assert_eq!(number(16, &MAP, &many[..count], ROOM), 8);
         assert_eq!(number(2, &many[..count], &[], ROOM), 8);
         assert_eq!(number(2, &[1, 0, 0], &many[..count], ROOM), 8);
     }

@@ -1,7 +1,8 @@
 //! The comparison itself: the model against itself, and against its mutants.
 
 use compare::generate::lines::script;
-use compare::generate::states::random_state;
+use compare::generate::states::{random_state, tiled_state};
+use compare::harness::call::{Call, Outcome};
 use compare::harness::case::Case;
 use compare::harness::duel::Duel;
 use compare::harness::machine::Machine;
@@ -12,10 +13,12 @@ use compare::harness::random::Random;
 use compare::harness::shrink::{blank, delete, front, zero_bits};
 use compare::harness::tally::Tally;
 use compare::harness::words::{device_of, reset_words, store, STATE_WORDS};
+use compare::model::{Block, Event, SHAPES};
 use compare::mutants::{all, Change};
 use compare::parts::lines::{bad, filter, good, Sides};
 use compare::parts::mutants::mutants;
 use compare::parts::PARTS;
+use std::collections::BTreeSet;
 use std::path::PathBuf;
 
 fn program() -> Program {
@@ -45,7 +48,7 @@ fn words_keep_every_bit() {
 
 #[test]
 fn words_lie_where_the_header_says() {
-    assert_eq!(STATE_WORDS, 1815);
+    assert_eq!(STATE_WORDS, 2359);
     let named = [
         (0, "RIFSC CR"),
         (6, "SECCFGR5"),
@@ -64,6 +67,10 @@ fn words_lie_where_the_header_says() {
         (183, "RISAF2 CR"),
         (47 + 9 * 136, "RISAF11 CR"),
         (1814, "RISAF14 region 11 B NEST"),
+        (1815, "RISAF15 CR"),
+        (1815 + 136, "RISAF21 CR"),
+        (2358, "RISAF23 region 11 B NEST"),
+        (2359, "past the state"),
     ];
     for (place, name) in named {
         assert_eq!(word_name(place), name);
@@ -71,6 +78,18 @@ fn words_lie_where_the_header_says() {
     assert_eq!(reset_words()[19], 0x710);
     assert_eq!(reset_words()[33..47], [0; 14]);
     assert_eq!(reset_words()[53], 0xFFF);
+    // END of region 1 of guards 14, 15, 21, and of region 11's B of 23.
+    let ends = [1679, 1815, 1951].map(|guard| reset_words()[guard + 6]);
+    assert_eq!((ends, reset_words()[2357]), ([0xFFF, 3, 0x1FF], 0x1FF));
+}
+
+#[test]
+fn a_tiled_state_has_as_many_spans_as_there_can_be() {
+    let device = device_of(&tiled_state());
+    for shape in &SHAPES {
+        let spans = device.map(shape.number).unwrap();
+        assert_eq!(spans.len(), 1 + 6 * shape.regions);
+    }
 }
 
 #[test]
@@ -84,6 +103,59 @@ fn the_model_agrees_with_itself_and_meets_every_answer() {
     }
     tally.count_script(&filter(&script(&mut Random::new(1), 20_000)));
     tally.verdict().unwrap();
+}
+
+/// The model, with the guards that its calls named.
+struct Watched {
+    model: Modelled,
+    guards: BTreeSet<u32>,
+}
+
+impl Machine for Watched {
+    fn load(&mut self, words: &[u32]) {
+        self.model.load(words);
+    }
+
+    fn call(&mut self, call: &Call) -> Outcome {
+        match call {
+            Call::Event(Event::Memory(access)) => drop(self.guards.insert(access.guard)),
+            Call::Event(Event::Master(access)) => drop(self.guards.insert(access.guard)),
+            Call::Event(Event::Register(access)) => {
+                if let Block::Risaf(guard) = access.block {
+                    self.guards.insert(guard);
+                }
+            }
+            Call::Map { guard, .. } | Call::Diff { guard, .. } => drop(self.guards.insert(*guard)),
+            Call::Batch { accesses, .. } => {
+                let guards = accesses.iter().map(|access| access.guard);
+                self.guards.extend(guards);
+            }
+            _ => {}
+        }
+        self.model.call(call)
+    }
+
+    fn words(&self) -> &[u32] {
+        self.model.words()
+    }
+}
+
+#[test]
+fn every_part_meets_every_guard() {
+    let mut expected = Modelled::new(MODEL);
+    for part in &PARTS {
+        let mut subject = Watched {
+            model: Modelled::new(MODEL),
+            guards: BTreeSet::new(),
+        };
+        let mut tally = Tally::default();
+        let mut duel = Duel::new(&mut expected, &mut subject, &mut tally);
+        let mut random = Random::named(1, part.name);
+        assert!((part.run)(&mut duel, &mut random, 20_000).is_ok());
+        let numbers = SHAPES.iter().map(|shape| shape.number);
+        let missed: Vec<u32> = numbers.filter(|n| !subject.guards.contains(n)).collect();
+        assert!(missed.is_empty(), "{}: {missed:?}", part.name);
+    }
 }
 
 #[test]
@@ -130,7 +202,7 @@ fn cases_become_small() {
     let most = [
         ("end-exclusive", 1, 8),
         ("iaesr-overwritten", 2, 3),
-        ("caef-forgotten", 1, 0),
+        ("caef-forgotten", 1, 1),
         ("map-short", 1, 0),
         ("line-recounted", 1, 2),
         ("count-saturates", 2, 3),
@@ -207,6 +279,5 @@ fn a_program_that_fails_is_a_difference() {
 fn wrong_lengths_are_refused() {
     let mut model = Modelled::new(MODEL);
     model.load(&[0; STATE_WORDS - 1]);
-    let call = compare::harness::call::Call::Line;
-    assert_eq!(model.call(&call).answer, 8 << 32);
+    assert_eq!(model.call(&Call::Line).answer, 8 << 32);
 }

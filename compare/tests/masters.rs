@@ -3,7 +3,7 @@
 mod common;
 
 use common::random::Random;
-use common::{master, set, word};
+use common::{master, set, word, GUARD_NUMBERS};
 use compare::model::{Block, Device, Direction, Event, MasterAccess, MemoryAccess, GUARDING, PPSR};
 use compare::text::run;
 
@@ -165,7 +165,7 @@ fn a_master_access_is_the_memory_access_it_carries() {
         for _ in 0..20 {
             let asked = MasterAccess {
                 master: random.below(13),
-                guard: 1 + random.below(9),
+                guard: GUARD_NUMBERS[random.below(17) as usize],
                 offset: random.offset(),
                 width: 1,
                 direction: [Direction::Read, Direction::Write][random.below(2) as usize],

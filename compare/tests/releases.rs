@@ -27,7 +27,7 @@ fn printed(old: &str, new: &str) -> String {
 
 /// Sheets of all guards, empty but for those given.
 fn sheets(given: &[(u32, &str)]) -> String {
-    let numbers = (1..=14).filter(|&number| number != 10);
+    let numbers = (1..=9).chain(11..=15).chain(21..=23);
     let sheet = |number| {
         let found = given.iter().find(|(guard, _)| *guard == number);
         let lines = found.map_or("", |(_, lines)| lines);
@@ -66,6 +66,8 @@ fn like_releases() {
     let same = sheets(&[]);
     assert!(same.starts_with("guard 1\nend 0\nguard 2\n"));
     assert!(same.contains("guard 9\nend 0\nguard 11\n"));
+    assert!(same.contains("guard 15\nend 0\nguard 21\n"));
+    assert_eq!(same.matches("guard").count(), 17);
     assert_eq!(printed("", ""), same);
     assert_eq!(printed(W11, W11), same);
     assert_eq!(printed("", "map 2\nmem 2 00000000 4 r 1 s p\n"), same);
@@ -89,6 +91,10 @@ fn marked_examples() {
     let line = "diff 00010000 0001ffff 8282000000000000 0000000084868486 14\n";
     assert_eq!(printed("", &both), sheets(&[(2, line), (14, line)]));
     assert_eq!(printed(W11, &both), sheets(&[(14, line)]));
+    // A granule of guard 21 open to nonsecure reads.
+    let ahb = "reg risaf 21 0000004c w 00000001 s p\nreg risaf 21 00000040 w 00000001 s p\n";
+    let line = "diff 00000000 000001ff ffff000000000000 0000000000ff00ff 32\n";
+    assert_eq!(printed("", ahb), sheets(&[(21, line)]));
 }
 
 #[test]
@@ -144,7 +150,7 @@ fn random_scripts_give_what_differs_between_their_maps() {
         let more = script(&mut random, 10 * round);
         let new = [&old[..], &more].concat();
         let mut expected = String::new();
-        for guard in (1..=14).filter(|&guard| guard != 10) {
+        for guard in (1..=9).chain(11..=15).chain(21..=23) {
             let mut room = [0; 665];
             let (before, after) = (map_after(&old, guard), map_after(&new, guard));
             let (answer, used) = diff(guard, &before, &after, &mut room);

@@ -3,7 +3,7 @@
 mod common;
 
 use common::random::Random;
-use common::GUARD_NUMBERS;
+use common::{on_ahb, GUARD_NUMBERS};
 use compare::model::{
     lookup, Device, Direction, Event, Guard, MemoryAccess, Region, Span, Subregion,
 };
@@ -19,8 +19,10 @@ fn covers(start: u32, end: u32, offset: u32) -> bool {
 /// The tests for security, for privilege, for compartment and direction.
 type Tests = [bool; 3];
 
+/// On the AHB bus there is no compartment to test.
 fn default_tests(ask: &MemoryAccess) -> Tests {
-    [ask.secure, ask.privileged, ask.cid == 1 || ask.cid == 7]
+    let compartment = on_ahb(ask.guard) || ask.cid == 1 || ask.cid == 7;
+    [ask.secure, ask.privileged, compartment]
 }
 
 /// Each test over all regions.
@@ -64,6 +66,11 @@ fn subregion_tests(counting: &[(&Region, &Subregion)], ask: &MemoryAccess) -> Te
 
 /// The rule's number, and that of the first test that fails, from 1.
 fn judged(guard: &Guard, ask: &MemoryAccess) -> (u32, Option<u32>) {
+    let mut ask = *ask;
+    if on_ahb(ask.guard) {
+        ask.cid = 0;
+    }
+    let ask = &ask;
     let bases: Vec<&Region> = guard
         .own_regions()
         .iter()
@@ -88,8 +95,8 @@ fn judged(guard: &Guard, ask: &MemoryAccess) -> (u32, Option<u32>) {
 #[test]
 fn memory_accesses_follow_the_rules() {
     let mut random = Random::new(4);
-    // For each rule how often it granted, and how often it refused for which reason.
-    let mut counts = [[0; 4]; 3];
+    // For each bus and rule how often it granted, and how often it refused for which reason.
+    let mut counts = [[[0; 4]; 3]; 2];
     for _ in 0..2_000 {
         let mut device = random.device();
         for _ in 0..300 {
@@ -105,11 +112,15 @@ fn memory_accesses_follow_the_rules() {
             let answer = device.apply(&Event::Memory(ask));
             let expected = reason.map_or((0, rule), |reason| (1, reason));
             assert_eq!((answer.number(), answer.value()), expected);
-            counts[rule as usize][reason.unwrap_or(0) as usize] += 1;
+            let rules = &mut counts[usize::from(on_ahb(ask.guard))];
+            rules[rule as usize][reason.unwrap_or(0) as usize] += 1;
         }
     }
-    let mut all = counts.iter().flatten();
-    assert!(all.all(|&count| count > 1_000), "{counts:?}");
+    // There rule 0 has no third reason.
+    assert_eq!(counts[1][0][3], 0);
+    counts[1][0][3] = 1_000;
+    let mut all = counts.iter().flatten().flatten();
+    assert!(all.all(|&count| count > 100), "{counts:?}");
 }
 
 fn ask_of_kind(guard: u32, offset: u32, kind: u32) -> MemoryAccess {

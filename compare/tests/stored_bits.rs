@@ -90,11 +90,16 @@ fn reset_clears_everything() {
     assert_eq!(device.apply(&Event::Reset), Answer::Done(0));
     assert_eq!(device, Device::reset_state());
     for guard in &device.guards {
+        let end = match guard.shape().number {
+            15 => 3,
+            21..=23 => 511,
+            _ => 4_095,
+        };
         for region in &guard.regions {
-            assert_eq!((region.cfgr, region.start, region.end), (0, 0, 0xFFF));
+            assert_eq!((region.cfgr, region.start, region.end), (0, 0, end));
             for subregion in &region.subregions {
                 assert_eq!((subregion.cfgr, subregion.start), (0, 0));
-                assert_eq!((subregion.end, subregion.nest), (0xFFF, 0));
+                assert_eq!((subregion.end, subregion.nest), (end, 0));
             }
         }
     }

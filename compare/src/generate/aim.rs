@@ -1,5 +1,6 @@
 //! Single events, aimed at what a state holds.
 
+use super::delegated::delegated_write;
 use super::flags::flag_event;
 use super::masters::master_access;
 use super::registers::{self, direction};
@@ -15,16 +16,18 @@ const BOUNDS: [usize; 6] = [1, 2, 5, 6, 9, 10];
 /// A guard's number: mostly one that exists, sometimes any.
 pub fn guard_number(random: &mut Random) -> u32 {
     match random.below(40) {
-        0 => random.pick(&[0, 10, 15, 16, 21, 22, 23, 255, 256, 258, u32::MAX]),
+        0 => random.pick(&[0, 10, 16, 17, 18, 19, 20, 24, 255, 256, 258, u32::MAX]),
         1 => random.word(),
         // The widest windows with the most regions.
-        2..=9 => random.pick(&[4, 5, 6]),
+        2..=7 => random.pick(&[4, 5, 6]),
+        // The guards on the AHB bus.
+        8..=13 => random.pick(&[15, 21, 22, 23]),
         _ => SHAPES[random.below(GUARDS)].number,
     }
 }
 
 /// Where a guard of that number stands; no matter where if there is none.
-fn place_of(guard: u32) -> usize {
+pub fn place_of(guard: u32) -> usize {
     let place = SHAPES.iter().position(|shape| shape.number == guard);
     place.unwrap_or(0)
 }
@@ -65,7 +68,7 @@ fn offset(random: &mut Random, words: &[u32], place: usize, aim: Aim) -> u32 {
 }
 
 fn near(random: &mut Random, bound: u32) -> u32 {
-    const STEPS: [u32; 9] = [0, 0, 1, 1, 2, 4, 0x7FF, 0xFFF, 0x1000];
+    const STEPS: [u32; 12] = [0, 0, 1, 1, 2, 3, 4, 0x1FF, 0x200, 0x7FF, 0xFFF, 0x1000];
     let step = random.pick(&STEPS);
     if random.flag() {
         bound.wrapping_add(step)
@@ -178,7 +181,7 @@ pub fn block(random: &mut Random) -> Block {
 
 /// Any event but reset, on a state of the right length.
 pub fn event(random: &mut Random, words: &[u32]) -> Event {
-    match random.below(21) {
+    match random.below(22) {
         0..=7 => {
             let block = block(random);
             Event::Register(registers::access(random, block))
@@ -186,6 +189,7 @@ pub fn event(random: &mut Random, words: &[u32]) -> Event {
         8..=13 => Event::Memory(memory_access(random, words)),
         14..=17 => Event::Master(master_access(random, words)),
         18 | 19 => Event::Peripheral(peripheral_access(random)),
+        20 => delegated_write(random, words),
         _ => flag_event(random, words),
     }
 }

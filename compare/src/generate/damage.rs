@@ -3,7 +3,7 @@
 use crate::harness::random::Random;
 
 /// Fields that are wrong nearly everywhere, or right where they do not fit.
-const ODD_FIELDS: [&[u8]; 32] = [
+const ODD_FIELDS: [&[u8]; 37] = [
     b"",
     b"0",
     b"00",
@@ -12,6 +12,11 @@ const ODD_FIELDS: [&[u8]; 32] = [
     b"8",
     b"13",
     b"14",
+    b"15",
+    b"16",
+    b"20",
+    b"21",
+    b"24",
     b"4294967295",
     b"4294967296",
     b"9999999999",

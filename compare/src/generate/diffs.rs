@@ -61,7 +61,7 @@ pub fn pair(random: &mut Random, shape: &Shape) -> (Vec<u64>, Vec<u64>) {
 /// Rights words that a guard may give, and such as none can.
 fn palette(random: &mut Random, count: usize) -> Vec<u64> {
     let word = |random: &mut Random| match random.below(6) {
-        0 => 0x8282_0000_0000_0000,
+        0 => random.pick(&[0x8282_0000_0000_0000, 0xFFFF_0000_0000_0000]),
         1 => 0,
         2 => u64::MAX,
         3 => 1 << random.below(64),

@@ -2,6 +2,7 @@
 
 pub mod aim;
 pub mod damage;
+pub mod delegated;
 pub mod diffs;
 pub mod flags;
 pub mod lent;

@@ -2,7 +2,7 @@
 
 use crate::harness::random::Random;
 use crate::harness::words::REGION_WORDS;
-use crate::model::{Block, Direction, RegisterAccess, REGIONS_STORED};
+use crate::model::{shape_of, Block, Direction, RegisterAccess, REGIONS_STORED};
 
 /// Runs of registers: the first's offset, and how many there are.
 type Runs = &'static [(u32, usize)];
@@ -47,10 +47,12 @@ fn run(random: &mut Random, block: Block) -> (u32, usize) {
         Block::Rifsc => random.pick(RIFSC),
         Block::Iac => random.pick(IAC),
         Block::Risaf(_) if random.one_in(5) => random.pick(GUARD_HEAD),
-        Block::Risaf(_) => (
-            region_offset(random.below(REGIONS_STORED + 1)),
-            REGION_WORDS,
-        ),
+        Block::Risaf(number) => {
+            // Mostly one that the guard has.
+            let own = shape_of(number).filter(|_| !random.one_in(6));
+            let regions = own.map_or(REGIONS_STORED + 1, |shape| shape.regions);
+            (region_offset(random.below(regions)), REGION_WORDS)
+        }
     }
 }
 
@@ -69,12 +71,14 @@ fn offset(random: &mut Random, block: Block) -> u32 {
 }
 
 /// Data of all kinds: any, few bits, many bits, places of granules.
-fn data(random: &mut Random) -> u32 {
-    match random.below(8) {
+pub fn data(random: &mut Random) -> u32 {
+    match random.below(9) {
         0..=2 => random.word(),
         3 => random.word() & random.word() & random.word(),
         4 => random.word() | random.word() | random.word(),
-        5 => random.pick(&[0, 1, 0xFFF, 0x1000, 0x14, 0x0000_3373, u32::MAX]),
+        5 => random.pick(&[0, 1, 0xFFF, 0x1000, 0x04, 0x14, 0x0000_3373, u32::MAX]),
+        // Inside the smallest windows.
+        6 => random.word() & 0x3FFF,
         _ => (0x1000 * random.below(0x101) as u32).wrapping_sub(u32::from(random.flag())),
     }
 }

@@ -5,7 +5,7 @@ use crate::harness::random::Random;
 use crate::harness::words::{
     guard_at, region_at, reset_words, IER_AT, LINE_AT, REGION_WORDS, STATE_WORDS,
 };
-use crate::model::{Shape, GUARDS, SHAPES};
+use crate::model::{Bus, Shape, GUARDS, REGIONS_STORED, SHAPES};
 
 /// Every bit of every word random.
 pub fn random_state(random: &mut Random) -> Vec<u32> {
@@ -42,23 +42,31 @@ pub fn dense_state(random: &mut Random) -> Vec<u32> {
 struct Theme {
     secure: u32,
     cid: u32,
+    bus: Bus,
     /// Offsets are multiples of this.
     step: u64,
+    low_bits: u32,
 }
 
+/// Those past the guard's count too, which must not matter.
 fn dense_guard(random: &mut Random, words: &mut [u32], place: usize) {
     let shape = &SHAPES[place];
+    let granule = u64::from(shape.granule);
+    let wide = (shape.window / 16) & !(granule - 1);
+    let cid = random.below(8) as u32;
     let theme = Theme {
         secure: u32::from(random.flag()) << 8,
-        cid: random.below(8) as u32,
-        step: random.pick(&[0x1000, 0x2000, (shape.window / 16) & !0xFFF]),
+        cid: shape.bus.cid(cid),
+        bus: shape.bus,
+        step: random.pick(&[granule, 2 * granule, wide.max(granule)]),
+        low_bits: shape.low_bits(),
     };
     let tiled = random.one_in(4);
-    for region in 0..shape.regions {
+    for region in 0..REGIONS_STORED {
         let at = region_at(place, region);
         let words = &mut words[at..at + REGION_WORDS];
         dense_rights(random, words, &theme);
-        if tiled {
+        if tiled && region < shape.regions {
             let tile = shape.window / shape.regions as u64;
             tile_bounds(random, words, tile * region as u64, tile);
         } else {
@@ -84,7 +92,13 @@ fn dense_rights(random: &mut Random, words: &mut [u32], theme: &Theme) {
     for nest in [7, 11] {
         if random.flag() {
             // Delegated to the register port's own compartment.
-            words[nest] = words[nest] & !0x70 | 0x14;
+            words[nest] = words[nest] & !0x70 | theme.bus.port() << 4 | 0x4;
+        }
+    }
+    for cfgr in [4, 8] {
+        if theme.bus == Bus::Ahb && random.flag() {
+            // Open to the one compartment there is.
+            words[cfgr] &= !0x70;
         }
     }
 }
@@ -121,17 +135,18 @@ fn dense_bounds(random: &mut Random, low: u64, high: u64, theme: &Theme) -> (u32
     if start > end && !random.one_in(8) {
         (start, end) = (end, start);
     }
-    let end = (end as u32).wrapping_add(0xFFF);
+    let end = (end as u32).wrapping_add(theme.low_bits);
     let start = start as u32;
     if random.one_in(8) {
         let noise = random.word();
-        return (start ^ noise & 0xFFF, end ^ noise >> 12 & 0xFFF);
+        let low_bits = theme.low_bits;
+        return (start ^ noise & low_bits, end ^ noise >> 12 & low_bits);
     }
     (start, end)
 }
 
 /// Reset, but all regions and subregions of all guards cover all of the window
-/// and admit CID 2 secure.
+/// and, where there are CIDs, admit CID 2 secure.
 pub fn crowded_state() -> Vec<u32> {
     fixed_state(|_, region| {
         region[..3].copy_from_slice(&[0x101, 0, u32::MAX]);
@@ -148,7 +163,7 @@ pub fn tiled_state() -> Vec<u32> {
         let tile = shape.window / shape.regions as u64;
         tile_bounds(&mut random, region, tile * index as u64, tile);
         region[0] |= 0x100;
-        region[3] = 0x0002_0002;
+        region[3] = 0x0003_0003;
         region[4] |= 0x0120;
         region[8] |= 0x0130;
     })

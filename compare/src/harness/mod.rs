@@ -4,6 +4,7 @@
 pub mod call;
 pub mod case;
 pub mod duel;
+mod kinds;
 pub mod machine;
 pub mod modelled;
 pub mod names;

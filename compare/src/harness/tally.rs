@@ -1,70 +1,11 @@
 //! How often each kind of call got each answer, and which must be met.
 
 use super::call::{Call, Outcome};
-use crate::model::{Block, Direction, Event, RegisterAccess};
+use super::kinds::{ahb_kind, kind_of, Kind, KINDS, REASONS};
 use std::fmt::Write;
 
 const NUMBERS: usize = 9;
 const VALUES: usize = 3;
-const REASONS: [&str; 4] = ["none", "security", "privilege", "compartment"];
-
-/// A kind of call: the numbers it can get, the values of 0 told apart, and the
-/// reasons that 1 can have.
-struct Kind {
-    name: &'static str,
-    numbers: &'static [usize],
-    values: &'static [&'static str],
-    reasons: &'static [usize],
-}
-
-/// A kind of call that is refused without a reason.
-const fn kind(
-    name: &'static str,
-    numbers: &'static [usize],
-    values: &'static [&'static str],
-) -> Kind {
-    Kind {
-        name,
-        numbers,
-        values,
-        reasons: &[0],
-    }
-}
-
-const fn memory_kind(name: &'static str, numbers: &'static [usize]) -> Kind {
-    Kind {
-        name,
-        numbers,
-        values: &["by default", "by base", "by subregion"],
-        reasons: &[1, 2, 3],
-    }
-}
-
-const KINDS: [Kind; 18] = [
-    kind("reset", &[0, 8], &[]),
-    kind("rifsc read", &[0, 3, 5, 8], &[]),
-    kind("rifsc write", &[0, 1, 2, 3, 5, 8], &[]),
-    kind("iac read", &[0, 1, 3, 5, 8], &[]),
-    kind("iac write", &[0, 1, 3, 5, 8], &[]),
-    kind("risaf read", &[0, 1, 3, 4, 5, 8], &[]),
-    kind("risaf write", &[0, 1, 2, 3, 4, 5, 8], &[]),
-    kind("no block", &[4, 8], &[]),
-    kind("peripheral", &[0, 1, 4, 7, 8], &[]),
-    memory_kind("memory", &[0, 1, 4, 5, 6, 8]),
-    memory_kind("master", &[0, 1, 4, 5, 6, 8]),
-    kind("line", &[0, 8], &["down", "up"]),
-    kind("map", &[0, 4, 8], &[]),
-    kind("lookup", &[0], &["row", "no row"]),
-    kind("batch", &[0, 8], &[]),
-    memory_kind("in a batch", &[0, 1, 4, 5, 6]),
-    kind("diff", &[0, 4, 8], &[]),
-    Kind {
-        name: "script line",
-        numbers: &[0, 1, 2, 3, 4, 5, 6, 7],
-        values: &[],
-        reasons: &[0, 1, 2, 3],
-    },
-];
 
 #[derive(Default)]
 pub struct Tally {
@@ -73,37 +14,15 @@ pub struct Tally {
     reasons: [[u64; REASONS.len()]; KINDS.len()],
 }
 
-fn register_kind(access: &RegisterAccess) -> usize {
-    let block = match access.block {
-        Block::Rifsc => 1,
-        Block::Iac => 3,
-        Block::Risaf(_) => 5,
-    };
-    block + usize::from(access.direction == Direction::Write)
-}
-
-fn kind_of(call: &Call) -> usize {
-    match call {
-        Call::Event(Event::Reset) => 0,
-        Call::Event(Event::Register(access)) => register_kind(access),
-        Call::NoBlock { .. } => 7,
-        Call::Event(Event::Peripheral(_)) | Call::NoOperation { .. } => 8,
-        Call::Event(Event::Memory(_)) => 9,
-        Call::Event(Event::Master(_)) => 10,
-        Call::Line => 11,
-        Call::Map { .. } => 12,
-        Call::Lookup { .. } => 13,
-        Call::Batch { .. } => 14,
-        Call::Diff { .. } => 16,
-    }
-}
-
 impl Tally {
     pub fn count(&mut self, call: &Call, outcome: &Outcome) {
         let kind = kind_of(call);
         match call {
             Call::Lookup { .. } => self.add(kind, u64::from(outcome.lent.is_empty())),
             _ => self.add(kind, outcome.answer),
+        }
+        if let Some(kind) = ahb_kind(call) {
+            self.add(kind, outcome.answer);
         }
         if let Call::Batch { accesses, .. } = call {
             let done = if outcome.answer == 0 {

@@ -15,7 +15,7 @@ use super::shape::{place_of, GUARDS, SHAPES};
 pub struct Device {
     pub rifsc: Rifsc,
     pub iac: Iac,
-    /// In the order of their numbers: 1 to 9, then 11 to 14.
+    /// In the order of their numbers: 1 to 9, 11 to 15, 21 to 23.
     pub guards: [Guard; GUARDS],
 }
 
@@ -79,7 +79,7 @@ impl Device {
             Block::Risaf(number) => match self.guard_mut(number) {
                 None => return Answer::NoTarget,
                 Some(_) if misaligned => return Answer::Misaligned,
-                Some(guard) => (guard.register_access(access), IAC_INDEX + number),
+                Some(guard) => (guard.register_access(access), guard.shape().flag),
             },
         };
         self.raise_if_refused(answer, index)
@@ -107,7 +107,8 @@ impl Device {
             privileged: access.privileged,
         };
         let answer = guard.memory_access(access.offset, asking);
-        self.raise_if_refused(answer, IAC_INDEX + access.guard)
+        let flag = guard.shape().flag;
+        self.raise_if_refused(answer, flag)
     }
 
     fn master_access(&mut self, access: &MasterAccess) -> Answer {

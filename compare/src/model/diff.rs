@@ -2,7 +2,7 @@
 
 use super::answer::Answer;
 use super::map::Span;
-use super::shape::{place_of, SHAPES};
+use super::shape::shape_of;
 use std::collections::BTreeSet;
 
 /// The least room for the rows: 133 of five numbers.
@@ -50,7 +50,7 @@ pub fn diff(guard: u32, before: &[u64], after: &[u64], room: &mut [u64]) -> (Ans
 /// The rows between two maps in numbers; none if there is no such guard or
 /// one is no map of its window.
 pub fn compared(guard: u32, before: &[u64], after: &[u64]) -> Option<Vec<DiffRow>> {
-    let window = SHAPES[place_of(guard)?].window;
+    let window = shape_of(guard)?.window;
     Some(diff_rows(
         &spans_of(before, window)?,
         &spans_of(after, window)?,

@@ -32,7 +32,7 @@ impl Guard {
             iasr: 0,
             iaesr: 0,
             iaddr: 0,
-            regions: [Region::RESET; REGIONS_STORED],
+            regions: [Region::reset(shape.low_bits()); REGIONS_STORED],
         }
     }
 
@@ -45,12 +45,17 @@ impl Guard {
         &self.regions[..self.shape.regions]
     }
 
+    /// What governs an offset of the window.
+    pub(crate) fn governing(&self, offset: u32) -> Governing {
+        Governing::at(self.shape.bus, self.own_regions(), offset)
+    }
+
     /// A memory access inside or outside the window, with its fault record.
     pub(crate) fn memory_access(&mut self, offset: u32, asking: Asking) -> Answer {
         if u64::from(offset) >= self.shape.window {
             return Answer::PastWindow;
         }
-        match Governing::at(self.own_regions(), offset).judge(asking) {
+        match self.governing(offset).judge(asking) {
             Ok(rule) => Answer::Granted(rule),
             Err(reason) => {
                 self.record_fault(offset, asking);
@@ -62,7 +67,7 @@ impl Guard {
     /// The first fault is kept until IAEF is cleared.
     fn record_fault(&mut self, offset: u32, asking: Asking) {
         if self.iasr & IAEF == 0 {
-            let fault = asking.cid
+            let fault = self.shape.bus.cid(asking.cid)
                 | u32::from(asking.privileged) << 4
                 | u32::from(asking.secure) << 5
                 | u32::from(asking.write) << 7;
@@ -98,7 +103,8 @@ impl Guard {
             GuardRegister::Cr | GuardRegister::Base(..) => access.secure_privileged(),
             GuardRegister::Subregion(index, side, _) => {
                 let region = &self.regions[index];
-                region.subregions[side as usize].admits(region.sec(), access)
+                let subregion = &region.subregions[side as usize];
+                subregion.admits(self.shape.bus.port(), region.sec(), access)
             }
         }
     }
@@ -118,7 +124,7 @@ impl Guard {
     }
 
     fn write(&mut self, register: GuardRegister, access: &RegisterAccess) -> Answer {
-        let glock = self.cr & GLOCK != 0;
+        let (glock, low_bits) = (self.cr & GLOCK != 0, self.shape.low_bits());
         match register {
             GuardRegister::Iasr | GuardRegister::Iaesr | GuardRegister::Iaddr => {
                 return Answer::NoRegister;
@@ -126,11 +132,13 @@ impl Guard {
             GuardRegister::Iacr => self.iasr &= !(access.data & (IAEF | CAEF)),
             GuardRegister::Subregion(index, side, part) => {
                 let subregion = &mut self.regions[index].subregions[side as usize];
-                return subregion.write(part, access, glock);
+                return subregion.write(part, access, low_bits, glock);
             }
             _ if glock => return Answer::Locked,
             GuardRegister::Cr => self.cr |= access.data & GLOCK,
-            GuardRegister::Base(index, part) => self.regions[index].write(part, access.data),
+            GuardRegister::Base(index, part) => {
+                self.regions[index].write(part, access.data, low_bits);
+            }
         }
         Answer::Done(0)
     }

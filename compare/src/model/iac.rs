@@ -17,7 +17,7 @@ pub const IISR: [u32; 6] = [
 
 /// Index raised by a refused RIFSC register access.
 pub const RIFSC_INDEX: u32 = 158;
-/// Index raised by a refused IAC register access; guard n raises n more.
+/// Index raised by a refused IAC register access.
 pub const IAC_INDEX: u32 = 138;
 
 const LINE: u32 = 1;

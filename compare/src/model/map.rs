@@ -1,7 +1,6 @@
 //! The map of a guard's window: spans of equal rights.
 
 use super::guard::Guard;
-use super::rule::Governing;
 
 /// Offsets from `start` to `end`, both included, with the rights of each.
 #[derive(Clone, Copy, Debug, PartialEq, Eq)]
@@ -39,7 +38,7 @@ pub fn spans(guard: &Guard) -> Vec<Span> {
     let mut spans: Vec<Span> = Vec::with_capacity(starts.len());
     let ends = starts.iter().skip(1).copied().chain([guard.shape().window]);
     for (&start, next) in starts.iter().zip(ends) {
-        let rights = Governing::at(guard.own_regions(), start as u32).rights();
+        let rights = guard.governing(start as u32).rights();
         let end = next - 1;
         match spans.last_mut() {
             Some(last) if last.rights == rights => last.end = end,

@@ -24,4 +24,4 @@ pub use iac::{Iac, IISR};
 pub use map::{lookup, spans, Span};
 pub use region::{Region, Subregion};
 pub use rifsc::{Rifsc, GUARDING, MASTERS, PPSR};
-pub use shape::{Shape, GUARDS, REGIONS_STORED, SHAPES};
+pub use shape::{shape_of, Bus, Shape, GUARDS, REGIONS_STORED, SHAPES};

@@ -11,7 +11,6 @@ const SUBREGION_CFGR: u32 = 0x0000_3373;
 const NEST: u32 = 0x0000_0074;
 const RLOCK: u32 = 1 << 1;
 const SEC: u32 = 1 << 8;
-const GRANULE_LOW: u32 = 0xFFF;
 
 #[derive(Clone, Copy, Debug, PartialEq, Eq)]
 pub struct Subregion {
@@ -32,12 +31,15 @@ pub struct Region {
 }
 
 impl Subregion {
-    pub const RESET: Subregion = Subregion {
-        cfgr: 0,
-        start: 0,
-        end: GRANULE_LOW,
-        nest: 0,
-    };
+    /// END covers one granule, whose low bits are given.
+    pub fn reset(low_bits: u32) -> Subregion {
+        Subregion {
+            cfgr: 0,
+            start: 0,
+            end: low_bits,
+            nest: 0,
+        }
+    }
 
     pub(crate) fn enabled(&self) -> bool {
         bit(self.cfgr, 0)
@@ -68,11 +70,12 @@ impl Subregion {
         bit(self.cfgr, 13)
     }
 
-    /// Whether a write to CFGR, START or END has the rights; the port is CID 1.
-    pub(crate) fn admits(&self, base_sec: bool, access: &RegisterAccess) -> bool {
+    /// Whether a write to CFGR, START or END has the rights; `port` is the CID
+    /// that it speaks as.
+    pub(crate) fn admits(&self, port: u32, base_sec: bool, access: &RegisterAccess) -> bool {
         let delegated = bit(self.nest, 2);
         let owner_admits = if delegated {
-            cid_field(self.nest, 4) == 1 && (access.secure || !base_sec)
+            cid_field(self.nest, 4) == port && (access.secure || !base_sec)
         } else {
             access.secure
         };
@@ -92,6 +95,7 @@ impl Subregion {
         &mut self,
         part: SubregionPart,
         access: &RegisterAccess,
+        low_bits: u32,
         glock: bool,
     ) -> Answer {
         if self.cfgr & RLOCK != 0 {
@@ -104,21 +108,24 @@ impl Subregion {
                 let taken = SUBREGION_CFGR & !sec_kept & !rlock_kept;
                 self.cfgr = blend(self.cfgr, access.data, taken);
             }
-            SubregionPart::Start => self.start = access.data & !GRANULE_LOW,
-            SubregionPart::End => self.end = access.data | GRANULE_LOW,
+            SubregionPart::Start => self.start = access.data & !low_bits,
+            SubregionPart::End => self.end = access.data | low_bits,
         }
         Answer::Done(0)
     }
 }
 
 impl Region {
-    pub const RESET: Region = Region {
-        cfgr: 0,
-        start: 0,
-        end: GRANULE_LOW,
-        cidcfgr: 0,
-        subregions: [Subregion::RESET; 2],
-    };
+    /// END covers one granule, whose low bits are given.
+    pub fn reset(low_bits: u32) -> Region {
+        Region {
+            cfgr: 0,
+            start: 0,
+            end: low_bits,
+            cidcfgr: 0,
+            subregions: [Subregion::reset(low_bits); 2],
+        }
+    }
 
     pub(crate) fn enabled(&self) -> bool {
         bit(self.cfgr, 0)
@@ -159,11 +166,11 @@ impl Region {
     }
 
     /// An admitted write while the guard is not locked.
-    pub(crate) fn write(&mut self, part: BasePart, data: u32) {
+    pub(crate) fn write(&mut self, part: BasePart, data: u32, low_bits: u32) {
         match part {
             BasePart::Cfgr => self.cfgr = blend(self.cfgr, data, BASE_CFGR),
-            BasePart::Start => self.start = data & !GRANULE_LOW,
-            BasePart::End => self.end = data | GRANULE_LOW,
+            BasePart::Start => self.start = data & !low_bits,
+            BasePart::End => self.end = data | low_bits,
             BasePart::Cidcfgr => self.cidcfgr = blend(self.cidcfgr, data, BASE_CIDCFGR),
             BasePart::Nest(side) => {
                 let nest = &mut self.subregions[side as usize].nest;

@@ -3,8 +3,9 @@
 use super::answer::{Reason, Rule};
 use super::bits::bit;
 use super::region::{Region, Subregion};
+use super::shape::Bus;
 
-/// The CID that passes every compartment test.
+/// The CID that passes every compartment test, where the bus carries it.
 const ANY_COMPARTMENT: u32 = 7;
 
 /// Who asks, and for what.
@@ -41,15 +42,21 @@ impl Tests {
     }
 }
 
-/// The governing rule with all that it demands at one offset.
-pub enum Governing {
+/// The governing rule at one offset of a guard on that bus.
+pub struct Governing {
+    bus: Bus,
+    terms: Terms,
+}
+
+/// The rule with all that it demands.
+enum Terms {
     Default,
     Base(BaseTerms),
     Subregion(SubregionTerms),
 }
 
 /// The terms of all enabled covering base regions; every one must grant.
-pub struct BaseTerms {
+struct BaseTerms {
     /// All have SEC 1, so each admits secure asking.
     secure: bool,
     /// All have SEC 0.
@@ -62,7 +69,7 @@ pub struct BaseTerms {
 }
 
 /// The terms of all subregions that count.
-pub struct SubregionTerms {
+struct SubregionTerms {
     /// All working SEC are 1.
     secure: bool,
     /// All working PRIV are 1.
@@ -145,18 +152,18 @@ impl SubregionTerms {
     }
 }
 
-/// Where no region covers.
-fn default_tests(asking: Asking) -> Tests {
+/// Where no region covers; without a CID on the bus only two tests are made.
+fn default_tests(bus: Bus, asking: Asking) -> Tests {
     Tests {
         security: asking.secure,
         privilege: asking.privileged,
-        compartment: asking.cid == 1 || asking.cid == ANY_COMPARTMENT,
+        compartment: bus == Bus::Ahb || asking.cid == 1 || asking.cid == ANY_COMPARTMENT,
     }
 }
 
 impl Governing {
     /// Gathers the terms at an offset over a guard's own base regions.
-    pub fn at(regions: &[Region], offset: u32) -> Governing {
+    pub fn at(bus: Bus, regions: &[Region], offset: u32) -> Governing {
         let (mut base_terms, mut base_counts) = (BaseTerms::none(), false);
         let (mut subregion_terms, mut subregion_counts) = (SubregionTerms::none(), false);
         for region in regions.iter().filter(|region| region.holds(offset)) {
@@ -167,21 +174,26 @@ impl Governing {
                 subregion_terms.add(region, subregion);
             }
         }
-        if subregion_counts {
-            Governing::Subregion(subregion_terms)
+        let terms = if subregion_counts {
+            Terms::Subregion(subregion_terms)
         } else if base_counts {
-            Governing::Base(base_terms)
+            Terms::Base(base_terms)
         } else {
-            Governing::Default
-        }
+            Terms::Default
+        };
+        Governing { bus, terms }
     }
 
     /// The rule if it grants, else why not.
     pub fn judge(&self, asking: Asking) -> Result<Rule, Reason> {
-        let (rule, tests) = match self {
-            Governing::Default => (Rule::Default, default_tests(asking)),
-            Governing::Base(terms) => (Rule::Base, terms.tests(asking)),
-            Governing::Subregion(terms) => (Rule::Subregion, terms.tests(asking)),
+        let asking = Asking {
+            cid: self.bus.cid(asking.cid),
+            ..asking
+        };
+        let (rule, tests) = match &self.terms {
+            Terms::Default => (Rule::Default, default_tests(self.bus, asking)),
+            Terms::Base(terms) => (Rule::Base, terms.tests(asking)),
+            Terms::Subregion(terms) => (Rule::Subregion, terms.tests(asking)),
         };
         tests.outcome().map(|()| rule)
     }

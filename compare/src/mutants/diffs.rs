@@ -3,7 +3,7 @@
 use super::{Change, Mutant};
 use crate::harness::modelled::{Differ, Rules, MODEL};
 use crate::model::diff::{compared, diff, joined, pieces, put_rows, spans_of, DiffRow, DIFF_ROOM};
-use crate::model::{Answer, Shape, Span, SHAPES};
+use crate::model::{shape_of, Answer, Span};
 
 const fn mutant(name: &'static str, wrong: &'static str, diff: Differ) -> Mutant {
     let change = Change::Rules(Rules { diff, ..MODEL });
@@ -45,8 +45,7 @@ fn with_rows(
     rows: impl Fn(&[Span], &[Span]) -> Vec<DiffRow>,
 ) -> Given {
     let (answer, used) = diff(guard, before, after, &mut room.to_vec());
-    let shape = SHAPES.iter().find(|shape| shape.number == guard);
-    match (answer, shape) {
+    match (answer, shape_of(guard)) {
         (Answer::Done(_), Some(shape)) => {
             let spans = |map| spans_of(map, shape.window).unwrap_or_default();
             (answer, put_rows(&rows(&spans(before), &spans(after)), room))
@@ -138,8 +137,8 @@ fn one_short(guard: u32, before: &[u64], after: &[u64], room: &mut [u64]) -> Giv
     let mended = |map: &[u64]| {
         let mut map = map.to_vec();
         if let [.., end, _] = &mut map[..] {
-            let short = |shape: &Shape| shape.number == guard && *end == shape.window - 2;
-            *end += u64::from(SHAPES.iter().any(short));
+            let short = shape_of(guard).is_some_and(|shape| *end == shape.window - 2);
+            *end += u64::from(short);
         }
         map
     };

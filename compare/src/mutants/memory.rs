@@ -1,7 +1,7 @@
 //! Wrong rules for accesses to memory and peripherals.
 
 use super::{mutant, Mutant};
-use crate::model::{Answer, Device, Event, MemoryAccess, Region, Rule, IISR, SHAPES};
+use crate::model::{shape_of, Answer, Device, Event, MemoryAccess, Region, Rule, IISR};
 
 const IAEF: u32 = 2;
 
@@ -91,8 +91,7 @@ fn with_regions(device: &mut Device, event: &Event, change: impl Fn(&mut Region,
 
 fn rule1_any(device: &mut Device, event: &Event) -> Answer {
     if let Some(access) = memory_access(device, event) {
-        let place = SHAPES.iter().position(|s| s.number == access.guard);
-        let regions = place.map_or(0, |place| SHAPES[place].regions);
+        let regions = shape_of(access.guard).map_or(0, |shape| shape.regions);
         for alone in 0..regions {
             let mut trial = device.clone();
             let guard = trial.guard_mut(access.guard).expect("it has regions");
@@ -190,7 +189,8 @@ fn next_flag(device: &mut Device, event: &Event) -> Answer {
     let before = device.iac.isr[4];
     let answer = device.apply(event);
     if let (Event::Memory(access), Answer::Denied(_)) = (event, answer) {
-        device.iac.isr[4] = before | (1 << (access.guard + 11)) & IISR[4];
+        let flag = shape_of(access.guard).map_or(0, |shape| shape.flag);
+        device.iac.isr[4] = before | (1 << (flag + 1 - 128)) & IISR[4];
     }
     answer
 }

@@ -4,6 +4,8 @@
 //! The model itself has no switch for this: a mutant changes an event, the
 //! state or the answer around the right rule.
 
+mod ahb;
+mod ahb_registers;
 mod diffs;
 mod held;
 mod lent;
@@ -53,6 +55,8 @@ pub fn all() -> Vec<Mutant> {
     let lists = [
         memory::MUTANTS,
         reasons::MUTANTS,
+        ahb::MUTANTS,
+        ahb_registers::MUTANTS,
         masters::MUTANTS,
         registers::MUTANTS,
         locks::MUTANTS,

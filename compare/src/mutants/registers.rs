@@ -2,7 +2,7 @@
 
 use super::written::{region_written, subregion_cfgr, write_of};
 use super::{mutant, Mutant};
-use crate::model::{Answer, Block, Device, Event, PPSR};
+use crate::model::{Answer, Block, Device, Event, RegisterAccess, PPSR};
 
 const CAEF: u32 = 1;
 const SEC: u32 = 1 << 8;
@@ -30,13 +30,18 @@ pub const MUTANTS: &[Mutant] = &[
         "a CFGR write clears unnamed bits",
         unnamed_cleared,
     ),
-    mutant("start-whole", "START keeps its low 12 bits", start_whole),
+    mutant("start-whole", "START keeps its low bits", start_whole),
     mutant(
         "absent-taken",
         "SECCFGR takes bits that are not present",
         absent_taken,
     ),
     mutant("reset-forgets", "reset leaves the flags", reset_forgets),
+    mutant(
+        "past-count",
+        "stored regions past a guard's count have registers",
+        past_count,
+    ),
 ];
 
 fn odd_first(device: &mut Device, event: &Event) -> Answer {
@@ -118,6 +123,23 @@ fn reset_forgets(device: &mut Device, event: &Event) -> Answer {
     let answer = device.apply(event);
     if *event == Event::Reset {
         device.iac.isr = flags;
+    }
+    answer
+}
+
+fn past_count(device: &mut Device, event: &Event) -> Answer {
+    let answer = device.apply(event);
+    if let (Event::Register(access), Answer::NoRegister) = (event, answer) {
+        if let Block::Risaf(number) = access.block {
+            // Guard 4 has all of them.
+            let mut trial = device.clone();
+            let regions = device.guard(number).map(|guard| guard.regions);
+            if let (Some(guard), Some(regions)) = (trial.guard_mut(4), regions) {
+                guard.regions = regions;
+            }
+            let block = Block::Risaf(4);
+            return trial.apply(&Event::Register(RegisterAccess { block, ..*access }));
+        }
     }
     answer
 }

@@ -1,6 +1,8 @@
 //! What an event writes to, and what it raises.
 
-use crate::model::{Answer, Block, Device, Direction, Event, RegisterAccess, Subregion};
+use crate::model::{
+    shape_of, Answer, Block, Bus, Device, Direction, Event, RegisterAccess, Subregion,
+};
 
 /// The write to a register that an event is.
 pub fn write_of(event: &Event) -> Option<&RegisterAccess> {
@@ -16,19 +18,32 @@ pub fn iac_written(event: &Event, answer: Answer) -> Option<&RegisterAccess> {
     write_of(event).filter(|access| done && access.block == Block::Iac)
 }
 
+/// The number of the guard that an event names.
+pub fn guard_of(event: &Event) -> Option<u32> {
+    match event {
+        Event::Memory(access) => Some(access.guard),
+        Event::Master(access) => Some(access.guard),
+        Event::Register(access) => match access.block {
+            Block::Risaf(guard) => Some(guard),
+            Block::Rifsc | Block::Iac => None,
+        },
+        Event::Reset | Event::Peripheral(_) => None,
+    }
+}
+
+/// Whether there is a guard of that number on the AHB bus.
+pub fn on_ahb(guard: u32) -> bool {
+    shape_of(guard).is_some_and(|shape| shape.bus == Bus::Ahb)
+}
+
 /// The word and the bit of the flag, present or not, that a refusal raises.
 pub fn raised_by(event: &Event, answer: Answer) -> Option<(usize, u32)> {
     let index = match event {
         _ if !answer.rights_fail() => return None,
-        Event::Reset => return None,
         Event::Peripheral(access) => access.peripheral,
-        Event::Memory(access) => 138 + access.guard,
-        Event::Master(access) => 138 + access.guard,
-        Event::Register(access) => match access.block {
-            Block::Rifsc => 158,
-            Block::Iac => 138,
-            Block::Risaf(guard) => 138 + guard,
-        },
+        Event::Register(access) if access.block == Block::Rifsc => 158,
+        Event::Register(access) if access.block == Block::Iac => 138,
+        _ => shape_of(guard_of(event)?)?.flag,
     };
     Some((index as usize / 32, 1 << (index % 32)))
 }

@@ -9,7 +9,7 @@ use crate::generate::states::{dense_state, random_state, random_words};
 use crate::harness::call::Call;
 use crate::harness::duel::Duel;
 use crate::harness::random::Random;
-use crate::harness::words::STATE_WORDS;
+use crate::harness::words::{GUARD_WORDS, STATE_WORDS};
 use crate::model::{Event, SHAPES};
 
 /// A random state or, more often, a dense one.
@@ -75,9 +75,12 @@ pub fn batches(duel: &mut Duel, random: &mut Random, amount: u64) -> Verdict {
     Ok(format!("{batches} batches, {accesses} accesses"))
 }
 
+/// The length without the guards on the AHB bus.
+const THIRTEEN: usize = STATE_WORDS - 4 * GUARD_WORDS;
+
 fn wrong_length(random: &mut Random) -> usize {
     let length = match random.below(4) {
-        0 => random.pick(&[0, 1, STATE_WORDS - 1, STATE_WORDS + 1]),
+        0 => random.pick(&[0, 1, THIRTEEN, STATE_WORDS - 1, STATE_WORDS + 1]),
         1 => STATE_WORDS + random.below(200),
         _ => random.below(STATE_WORDS),
     };

@@ -8,10 +8,15 @@ use compare::model::{
     RegisterAccess,
 };
 
-pub const GUARD_NUMBERS: [u32; 13] = [1, 2, 3, 4, 5, 6, 7, 8, 9, 11, 12, 13, 14];
+pub const GUARD_NUMBERS: [u32; 17] = [1, 2, 3, 4, 5, 6, 7, 8, 9, 11, 12, 13, 14, 15, 21, 22, 23];
+
+/// The guards whose bus carries no CID.
+pub fn on_ahb(guard: u32) -> bool {
+    [15, 21, 22, 23].contains(&guard)
+}
 
 /// Numbers that no guard has.
-pub const NO_GUARDS: [u32; 7] = [0, 10, 15, 21, 23, 999, u32::MAX];
+pub const NO_GUARDS: [u32; 10] = [0, 10, 16, 17, 18, 19, 20, 24, 999, u32::MAX];
 
 /// An event from reset that must change nothing.
 pub fn unchanged(act: impl FnOnce(&mut Device)) {

@@ -1,6 +1,6 @@
 //! Arbitrary states and events from a small generator.
 
-use super::GUARD_NUMBERS;
+use super::{on_ahb, GUARD_NUMBERS};
 use compare::model::{
     Block, Device, Direction, Event, MasterAccess, MemoryAccess, PeripheralAccess, Purpose, Region,
     RegisterAccess, Subregion,
@@ -39,11 +39,15 @@ impl Random {
 
     /// Mostly low, so that regions overlap; sometimes anything.
     pub fn offset(&mut self) -> u32 {
-        match self.below(4) {
+        match self.below(7) {
             0 => self.word(),
             1 => self.below(0x20) * 0x1000,
             2 => (self.below(0x20) * 0x1000).wrapping_sub(1),
-            _ => self.below(0x20000),
+            3 => self.below(0x20000),
+            // In the smallest windows.
+            4 => self.below(0x20) * 0x200,
+            5 => (self.below(0x20) * 0x200).wrapping_sub(1),
+            _ => self.below(0x1000),
         }
     }
 
@@ -96,16 +100,18 @@ impl Random {
 
     fn guard_number(&mut self) -> u32 {
         if self.below(20) == 0 {
-            self.below(17)
+            self.below(26)
         } else {
-            GUARD_NUMBERS[self.below(13) as usize]
+            GUARD_NUMBERS[self.below(17) as usize]
         }
     }
 
     pub fn memory_access(&mut self) -> MemoryAccess {
+        let guard = self.guard_number();
+        let size = if on_ahb(guard) { 0x2000 } else { u32::MAX };
         MemoryAccess {
-            guard: self.guard_number(),
-            offset: self.offset(),
+            guard,
+            offset: self.offset() % size,
             width: [1, 1, 1, 2, 4][self.below(5) as usize],
             direction: self.direction(),
             cid: self.below(8) + self.below(20) / 19,
