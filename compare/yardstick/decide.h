@@ -22,12 +22,13 @@ static inline bool none_enabled(const uint32_t *regions) {
 /* A verdict is the rule, 0 to 2, where it grants; else less than 0, and the test that failed first, over all that govern. */
 enum { BY_SECURITY = -1, BY_PRIVILEGE = -2, BY_COMPARTMENT = -3 };
 
-static inline int default_verdict(uint32_t cid, bool secure, bool privileged) {
-    if (!secure)
-        return BY_SECURITY;
-    if (!privileged)
-        return BY_PRIVILEGE;
-    return cid == 1 || cid == DEBUGGER ? 0 : BY_COMPARTMENT;
+static inline bool default_grants(uint32_t port, uint32_t cid, bool secure, bool privileged) {
+    return secure && privileged && (cid == port || cid == DEBUGGER);
+}
+
+/* Of an asking that rule 0 does not grant. */
+static inline int default_refusal(uint32_t kind) {
+    return !(kind & SECURE) ? BY_SECURITY : !(kind & PRIVILEGED) ? BY_PRIVILEGE : BY_COMPARTMENT;
 }
 
 static inline bool covers(const uint32_t *region, uint32_t offset) {

@@ -4,20 +4,25 @@
 #include "risaf.h"
 #include <string.h>
 
-#define FOUR_TIMES(words) words, words, words, words
-#define RESET_REGION 0, 0, GRANULE_LOW, 0, 0, 0, GRANULE_LOW, 0, 0, 0, GRANULE_LOW, 0
-#define RESET_GUARD 0, 0, 0, 0, FOUR_TIMES(RESET_REGION), FOUR_TIMES(RESET_REGION), RESET_REGION, RESET_REGION, RESET_REGION
+#define REGION(low) 0, 0, low, 0, 0, 0, low, 0, 0, 0, low, 0
+#define FOUR_REGIONS(low) REGION(low), REGION(low), REGION(low), REGION(low)
+#define GUARD(low) {0, 0, 0, 0, FOUR_REGIONS(low), FOUR_REGIONS(low), REGION(low), REGION(low), REGION(low)}
 
-/* The state after reset. */
-static const uint32_t reset_state[RIF_STATE_WORDS] = {
-    [RIMC_CR] = 0x710,
-    [GUARDS] = FOUR_TIMES(RESET_GUARD), FOUR_TIMES(RESET_GUARD), FOUR_TIMES(RESET_GUARD), RESET_GUARD,
-};
+/* The words of a guard after reset. */
+static const uint32_t reset_axi[GUARD_WORDS] = GUARD(LOW);
+static const uint32_t reset_15[GUARD_WORDS] = GUARD(LOW_15);
+static const uint32_t reset_21[GUARD_WORDS] = GUARD(LOW_21);
 
 uint64_t yard_reset(uint32_t *state, size_t words) {
     if (words != RIF_STATE_WORDS)
         return answer(WRONG_LENGTH);
-    memcpy(state, reset_state, sizeof reset_state);
+    memset(state, 0, GUARDS * sizeof *state);
+    state[RIMC_CR] = 0x710;
+    for (uint32_t number = 1; number < GUARD_NUMBERS; number++)
+        if (is_guard(number)) {
+            const uint32_t *to_be = !on_ahb(number) ? reset_axi : number == 15 ? reset_15 : reset_21;
+            memcpy(state + guards[number].first, to_be, sizeof reset_axi);
+        }
     return answer(DONE);
 }
 

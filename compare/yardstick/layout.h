@@ -40,19 +40,47 @@ typedef struct {
     uint8_t flag;    /* that it raises */
 } guard_facts;
 
-#define GUARD(number, place, regions, last) [number] = {last, GUARDS + GUARD_WORDS * (place), regions, 138 + (number)}
+#define AT(place) (GUARDS + GUARD_WORDS * (place))
+#define AXI(number, place, regions, last) [number] = {last, AT(place), regions, 138 + (number)}
+#define AHB(number, place, regions, last, flag) [number] = {last, AT(place), regions, flag}
 
 /* By number. */
 static const guard_facts guards[] = {
-    GUARD(1, 0, 7, 0x3fffffff),   GUARD(2, 1, 7, 0xfffff),      GUARD(3, 2, 7, 0xfffff),     GUARD(4, 3, 11, 0xffffffff),
-    GUARD(5, 4, 11, 0xffffffff),  GUARD(6, 5, 11, 0xffffffff),  GUARD(7, 6, 7, 409599),      GUARD(8, 7, 7, 262143),
-    GUARD(9, 8, 7, 131071),       GUARD(11, 9, 7, 0xfffffff),   GUARD(12, 10, 7, 0xfffffff), GUARD(13, 11, 7, 0xfffffff),
-    GUARD(14, 12, 7, 0xfffffff),
+    AXI(1, 0, 7, 0x3fffffff),
+    AXI(2, 1, 7, 0xfffff),
+    AXI(3, 2, 7, 0xfffff),
+    AXI(4, 3, 11, 0xffffffff),
+    AXI(5, 4, 11, 0xffffffff),
+    AXI(6, 5, 11, 0xffffffff),
+    AXI(7, 6, 7, 409599),
+    AXI(8, 7, 7, 262143),
+    AXI(9, 8, 7, 131071),
+    AXI(11, 9, 7, 0xfffffff),
+    AXI(12, 10, 7, 0xfffffff),
+    AXI(13, 11, 7, 0xfffffff),
+    AXI(14, 12, 7, 0xfffffff),
+    AHB(15, 13, 2, 4095, 153),
+    AHB(21, 14, 7, 16383, 155),
+    AHB(22, 15, 7, 16383, 156),
+    AHB(23, 16, 3, 4095, 157),
 };
+
+_Static_assert(AT(17) == RIF_STATE_WORDS, "the header's guards are these");
 
 enum { GUARD_NUMBERS = sizeof guards / sizeof *guards };
 
 static inline bool is_guard(uint32_t number) { return number < GUARD_NUMBERS && guards[number].regions; }
+
+/* Guards from 15 on are on the AHB bus, which carries no CID: every access counts as CID 0. */
+static inline bool on_ahb(uint32_t guard) { return guard >= 15; }
+
+/* The compartment that a guard's port speaks as, and that rule 0 admits. */
+static inline uint32_t port_of(uint32_t guard) { return !on_ahb(guard); }
+
+/* The low bits of an offset, in a granule. */
+enum { LOW = 0xfff, LOW_15 = 3, LOW_21 = 0x1ff };
+
+static inline uint32_t low_of(uint32_t guard) { return !on_ahb(guard) ? LOW : guard == 15 ? LOW_15 : LOW_21; }
 
 /* The numbers of the answers. */
 enum { DONE, REFUSED, LOCKED, NO_REGISTER, NO_SUCH, MISALIGNED, OUTSIDE, FETCH, WRONG_LENGTH };

@@ -3,8 +3,8 @@
 
 enum { MOST_BOUNDS = 6 * MOST_REGIONS };
 
-/* The rights where no region covers: secure and privileged, CID 1 and the debugger. */
-static const uint64_t default_rights = 0x8282000000000000;
+/* The rights where no region covers: secure and privileged, the port's compartment and the debugger. */
+static inline uint64_t default_rights(uint32_t port) { return 0x8080000000000000 | 0x0101000000000000 << port; }
 
 /* What covers is a bit each: base region x is bit 4 * x, its subregions the next two. */
 static const uint64_t base_bits = 0x11111111111;
@@ -67,10 +67,10 @@ static inline void count_sub(sub_terms *t, uint32_t base, uint32_t cfgr) {
 }
 
 /* The rights where these cover: of a security the two bytes of the unprivileged, then those of the privileged. */
-static inline uint64_t rights_of(const uint32_t *regions, uint64_t covering) {
+static inline uint64_t axi_rights_of(uint32_t port, const uint32_t *regions, uint64_t covering) {
     uint64_t bases = covering & base_bits;
     if (!bases)
-        return default_rights;
+        return default_rights(port);
     uint32_t any = 0, all = ~0u, enables = ~0u;
     sub_terms t = {~0u, ~0u, 0};
     do {
@@ -96,6 +96,12 @@ static inline uint64_t rights_of(const uint32_t *regions, uint64_t covering) {
     return all & SEC ? half << 32 : half;
 }
 
+/* Of a bus that carries no CID all compartments have the rights of CID 0. */
+static inline uint64_t rights_of(uint32_t guard, const uint32_t *regions, uint64_t covering) {
+    uint64_t rights = axi_rights_of(port_of(guard), regions, covering);
+    return on_ahb(guard) ? (rights & 0x0101010101010101) * 0xff : rights;
+}
+
 uint64_t yard_map(const uint32_t *state, size_t words, uint32_t guard, uint64_t *numbers, size_t count, uint64_t *used) {
     *used = 0;
     if (words != RIF_STATE_WORDS || count < RIF_MAP_NUMBERS)
@@ -111,13 +117,13 @@ uint64_t yard_map(const uint32_t *state, size_t words, uint32_t guard, uint64_t 
     for (; bound < end && *bound >> 8 == 0; bound++)
         covering ^= 1ull << (*bound & 0x3f);
     row[0] = 0;
-    row[2] = rights_of(regions, covering);
+    row[2] = rights_of(guard, regions, covering);
     while (bound < end) {
         at = *bound >> 8;
         do
             covering ^= 1ull << (*bound & 0x3f);
         while (++bound < end && *bound >> 8 == at);
-        rights = rights_of(regions, covering);
+        rights = rights_of(guard, regions, covering);
         if (rights == row[2])
             continue;
         row[1] = at - 1;

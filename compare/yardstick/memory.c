@@ -3,7 +3,7 @@
 #include "flags.h"
 
 /* The first fault is kept until IAEF is cleared. The value is the reason. */
-APART uint64_t refused(uint32_t *s, const guard_facts *g, uint32_t offset, uint32_t kind, int verdict) {
+static inline uint64_t refused(uint32_t *s, const guard_facts *g, uint32_t offset, uint32_t kind, int verdict) {
     uint32_t *w = s + g->first;
     if (!(w[IASR] & IAEF)) {
         w[IASR] |= IAEF;
@@ -12,6 +12,10 @@ APART uint64_t refused(uint32_t *s, const guard_facts *g, uint32_t offset, uint3
     }
     raise_flag(s, g->flag);
     return answer(REFUSED) - verdict;
+}
+
+APART uint64_t default_refused(uint32_t *s, const guard_facts *g, uint32_t offset, uint32_t kind) {
+    return refused(s, g, offset, kind, default_refusal(kind));
 }
 
 APART uint64_t judged(uint32_t *s, const guard_facts *g, const uint32_t *region, uint32_t left, uint32_t offset, uint32_t kind) {
@@ -29,14 +33,17 @@ static inline uint64_t access_memory(uint32_t *s, uint32_t guard, uint32_t offse
     const guard_facts *g = &guards[guard];
     if (offset > g->last)
         return answer(OUTSIDE);
+    if (on_ahb(guard))
+        cid = 0;
     const uint32_t *region = s + g->first + REGIONS;
     if (!none_enabled(region)) {
         for (uint32_t left = g->regions; left; left--, region += REGION_WORDS)
             if (covers(region, offset))
                 return judged(s, g, region, left, offset, kind_of(cid, write, secure, privileged));
     }
-    int verdict = default_verdict(cid, secure, privileged);
-    return verdict < 0 ? refused(s, g, offset, kind_of(cid, write, secure, privileged), verdict) : 0;
+    if (default_grants(port_of(guard), cid, secure, privileged))
+        return 0;
+    return default_refused(s, g, offset, kind_of(cid, write, secure, privileged));
 }
 
 uint64_t yard_memory(uint32_t *state, size_t words, uint32_t guard, uint32_t offset, uint32_t width, bool write, uint32_t cid,

@@ -4,8 +4,6 @@
 
 #include "flags.h"
 
-enum { GRANULE_LOW = 0xfff };
-
 /* The offsets of the registers that are no region's, and the bits of IAESR. */
 enum { CR_AT = 0x00, IASR_AT = 0x08, IACR_AT = 0x0c, IAESR_AT = 0x20, IADDR_AT = 0x24, REGIONS_AT = 0x40 };
 enum { IAESR_NAMED = 0xb7 };
@@ -76,18 +74,16 @@ static inline uint64_t head_write(uint32_t *s, const guard_facts *g, uint32_t of
     }
 }
 
-/* Whether CFGR, START and END of a subregion may be written; the port speaks as compartment 1. */
-static inline bool sub_admits(uint32_t base, uint32_t nest, bool secure, bool privileged) {
+/* Whether CFGR, START and END of a subregion may be written by a port that speaks as this compartment. */
+static inline bool sub_admits(uint32_t port, uint32_t base, uint32_t nest, bool secure, bool privileged) {
     if (!privileged)
         return false;
     if (!(nest & 4))
         return secure;
-    return (nest & 0x70) == 0x10 && (secure || !(base & SEC));
+    return (nest >> 4 & 7) == port && (secure || !(base & SEC));
 }
 
-static inline uint32_t bounded(uint32_t part, uint32_t data) {
-    return part == START ? data & ~GRANULE_LOW : data | GRANULE_LOW;
-}
+static inline uint32_t bounded(uint32_t low, uint32_t part, uint32_t data) { return part == START ? data & ~low : data | low; }
 
 static inline uint64_t guard_write(uint32_t *s, uint32_t guard, uint32_t offset, uint32_t data, bool secure, bool privileged) {
     if (!is_guard(guard))
@@ -107,15 +103,15 @@ static inline uint64_t guard_write(uint32_t *s, uint32_t guard, uint32_t offset,
             return guard_refused(s, g);
         if (glock)
             return answer(LOCKED);
-        *word = part == START || part == END ? bounded(part, data) : blend(*word, data, region_named[field]);
+        *word = part == START || part == END ? bounded(low_of(guard), part, data) : blend(*word, data, region_named[field]);
         return answer(DONE);
     }
     uint32_t *sub = word - part;
-    if (!sub_admits(*base, sub[NEST], secure, privileged))
+    if (!sub_admits(port_of(guard), *base, sub[NEST], secure, privileged))
         return guard_refused(s, g);
     if (*sub & RLOCK)
         return answer(LOCKED);
-    *word = part ? bounded(part, data) : blend(*word, data, 0x3271u | (secure ? SEC : 0) | (glock ? RLOCK : 0));
+    *word = part ? bounded(low_of(guard), part, data) : blend(*word, data, 0x3271u | (secure ? SEC : 0) | (glock ? RLOCK : 0));
     return answer(DONE);
 }
 
