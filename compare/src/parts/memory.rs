@@ -76,11 +76,11 @@ pub fn batches(duel: &mut Duel, random: &mut Random, amount: u64) -> Verdict {
 }
 
 /// The length without the guards on the AHB bus.
-const THIRTEEN: usize = STATE_WORDS - 4 * GUARD_WORDS;
+const AXI_ALONE: usize = STATE_WORDS - 4 * GUARD_WORDS;
 
 fn wrong_length(random: &mut Random) -> usize {
     let length = match random.below(4) {
-        0 => random.pick(&[0, 1, THIRTEEN, STATE_WORDS - 1, STATE_WORDS + 1]),
+        0 => random.pick(&[0, 1, AXI_ALONE, STATE_WORDS - 1, STATE_WORDS + 1]),
         1 => STATE_WORDS + random.below(200),
         _ => random.below(STATE_WORDS),
     };
