@@ -2,7 +2,7 @@
 use mathlib.Core.Bool.{Bool, true, false}
 use mathlib.Core.List.{List}
 use mathlib.Core.Logic.{_⊎_, inl, inr}
-use mathlib.Core.Path.{_≡_, refl, sym, ap, ap₂, _∙_}
+use mathlib.Core.Path.{_≡_, refl, sym, ap, _∙_}
 use Prim.Native.Nat.{ℕ, _+_, _≤_, _<_}
 use native.Mathlib.Decide.{decLt}
 use native.Mathlib.Numerals.{add-one}
@@ -10,8 +10,8 @@ use native.Mathlib.Omega.{arith}
 use lib.ListN.{getD}
 use borrow.Author.Tests.{lt-ltb, le-ltb, lt-leb, le-leb}
 use Rattle.words.specs.Bit.{bit}
-use Rattle.regions.specs.Ahead.{lesser, regionAhead, subAhead, baseAhead, insideAhead, ahead}
-use Rattle.regions.specs.Words.{base, sub, baseWords, subregionWords, startAt, endAt, enableBit}
+use Rattle.regions.specs.Ahead.{lesser, regionAhead, baseAhead, ahead}
+use Rattle.regions.specs.Words.{base, startAt, endAt, enableBit}
 use Rattle.regions.specs.Rules.{covers}
 
 -- ---- the lesser of two
@@ -75,13 +75,6 @@ module _ (w : List ℕ) (p : ℕ) where
 -- ---- a base region, by the code's calls
 
 module _ (w : List ℕ) (x o to : ℕ) where
-  pub base-inside : {own a b : ℕ} → own ≡ lesser (last w (base x) + 1) to → a ≡ subAhead w (base x + baseWords) o own
-      → b ≡ subAhead w (base x + baseWords + subregionWords) o a → b ≡ insideAhead w x o to
-  base-inside eo ea eb =
-      let p : base x + baseWords ≡ sub x 0 = omega arith in
-      let q : base x + baseWords + subregionWords ≡ sub x 1 = omega arith in
-      eb ∙ ap₂ (λ (i t : ℕ). subAhead w i o t) q (ea ∙ ap₂ (λ (i t : ℕ). subAhead w i o t) p eo)
-
   pub ahead-more : {s t : ℕ} → s ≡ ahead w x o to → t ≡ baseAhead w x o s → t ≡ ahead w (x + 1) o to
   unfolding ahead
   ahead-more es et = et ∙ ap (baseAhead w x o) es ∙ sym (ap (λ (n : ℕ). ahead w n o to) (add-one x))

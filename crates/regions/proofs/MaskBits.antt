@@ -14,7 +14,7 @@ use Rattle.access.specs.Fold.{any}
 use Rattle.access.proofs.Folds.{any-same, all-same}
 use Rattle.regions.specs.Words.{base, sub, cidcfgrAt, secBit, privBit, privcBit}
 use Rattle.regions.specs.Rules.{covers, srcid, workingSec, workingPriv, everyBase, someSub, everySub}
-use Rattle.regions.specs.Masks.{masks, baseGathered, subGathered, withWords}
+use Rattle.regions.specs.Masks.{masks, baseGathered, subGathered, withBase}
 use Rattle.regions.specs.declared.masks.Masks.{Masks}
 
 pub ap-cond : {A : Type 0} (f : A → Bool) (c : Bool) (x y : A) → f (cond c x y) ≡ cond c (f x) (f y)
@@ -47,7 +47,7 @@ and-two false d e p q = refl
 module _ (w : List ℕ) (o : ℕ) where
   -- with base region x, which covers
   abbrev withRegion : ℕ → Masks → Masks
-  withRegion x m = subGathered w x 1 o (subGathered w x 0 o (withWords (getD w (base x) 0) (getD w (base x + cidcfgrAt) 0) m))
+  withRegion x m = subGathered w x 1 o (subGathered w x 0 o (withBase (getD w (base x) 0) (getD w (base x + cidcfgrAt) 0) m))
 
   -- ---- what the words of each base region that covers add, or leave
 
@@ -72,7 +72,7 @@ module _ (w : List ℕ) (o : ℕ) where
 
   -- ---- what each subregion that counts adds, or leaves
 
-  module _ (f : Masks → Bool) (q : ℕ → ℕ → Bool) (same : (x : ℕ) (m : Masks) → f (withWords (getD w (base x) 0) (getD w (base x + cidcfgrAt) 0) m) ≡ f m) where
+  module _ (f : Masks → Bool) (q : ℕ → ℕ → Bool) (same : (x : ℕ) (m : Masks) → f (withBase (getD w (base x) 0) (getD w (base x + cidcfgrAt) 0) m) ≡ f m) where
     pub some-sub : f (masks w 0 o) ≡ false
         → ((x s : ℕ) (m : Masks) → f (subGathered w x s o m) ≡ (f m || covers w (sub x s) o && q x s)) → (n : ℕ)
         → f (masks w n o) ≡ someSub w n o q

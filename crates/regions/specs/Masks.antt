@@ -5,8 +5,9 @@ use mathlib.Core.Path.{_≡_}
 use Prim.Native.Nat.{ℕ, zero, suc, _+_, _-_, _*_, _/_, _%_, _^_, _≤_, _<_}
 use lib.Bits.{bitAnd, bitOr}
 use lib.ListN.{getD}
-use Rattle.regions.specs.Words.{base, sub, cidcfgrAt, privBit, rdenBit, wrenBit, privcBit}
-use Rattle.regions.specs.Rules.{covers, srcid}
+use Rattle.words.specs.Bit.{field}
+use Rattle.regions.specs.Words.{base, sub, cidcfgrAt, srcidBit, privBit, rdenBit, wrenBit, privcBit}
+use Rattle.regions.specs.Rules.{covers}
 use Rattle.regions.specs.declared.masks.Masks.{Masks}
 
 -- ---- one base region more
@@ -15,25 +16,9 @@ use Rattle.regions.specs.declared.masks.Masks.{Masks}
 unfoldable pub opening : ℕ → ℕ → ℕ
 opening cfgr i = (cfgr / 2 ^ rdenBit % 2 + 0x100 + cfgr / 2 ^ wrenBit % 2 * 0x1_0000) * 2 ^ i % 2 ^ 32
 
--- with subregion s of a base region that covers
-unfoldable pub subGathered : List ℕ → ℕ → ℕ → ℕ → Masks → Masks
-subGathered w x s o m =
-    let cfgr = getD w (sub x s) 0 in
-    let i = srcid w x s .0 in
-    cond (covers w (sub x s) o)
-    (record {
-      some = m .some;
-      every = m .every;
-      enables = m .enables;
-      secure = bitAnd (m .secure) (bitAnd cfgr (getD w (base x) 0));
-      privileged = bitAnd (m .privileged) (bitAnd (cfgr / 2 ^ privBit) (getD w (base x) 0 / 2 ^ i / 2 ^ privcBit 0));
-      opens = bitOr (m .opens) (opening cfgr i);
-    })
-    m
-
 -- with the words of a base region that covers
-abbrev pub withWords : ℕ → ℕ → Masks → Masks
-withWords cfgr cidcfgr m =
+abbrev pub withBase : ℕ → ℕ → Masks → Masks
+withBase cfgr cidcfgr m =
     record {
       some = bitOr (m .some) cfgr;
       every = bitAnd (m .every) cfgr;
@@ -43,12 +28,31 @@ withWords cfgr cidcfgr m =
       opens = m .opens;
     }
 
+-- with CFGR of a subregion that counts, and of its base region
+abbrev pub withSub : ℕ → ℕ → Masks → Masks
+withSub base sub m =
+    let i = field sub srcidBit 3 in
+    record {
+      some = m .some;
+      every = m .every;
+      enables = m .enables;
+      secure = bitAnd (m .secure) (bitAnd sub base);
+      privileged = bitAnd (m .privileged) (bitAnd (sub / 2 ^ privBit) (base / 2 ^ i / 2 ^ privcBit 0));
+      opens = bitOr (m .opens) (opening sub i);
+    }
+
+-- with subregion s of a base region that covers
+unfoldable pub subGathered : List ℕ → ℕ → ℕ → ℕ → Masks → Masks
+subGathered w x s o m = cond (covers w (sub x s) o) (withSub (getD w (base x) 0) (getD w (sub x s) 0) m) m
+
+-- with base region x, which covers, and its subregions
+abbrev pub insideGathered : List ℕ → ℕ → ℕ → Masks → Masks
+insideGathered w x o m =
+    subGathered w x 1 o (subGathered w x 0 o (withBase (getD w (base x) 0) (getD w (base x + cidcfgrAt) 0) m))
+
 -- with base region x and its subregions: nothing where it does not cover
 unfoldable pub baseGathered : List ℕ → ℕ → ℕ → Masks → Masks
-baseGathered w x o m =
-    cond (covers w (base x) o)
-    (subGathered w x 1 o (subGathered w x 0 o (withWords (getD w (base x) 0) (getD w (base x + cidcfgrAt) 0) m)))
-    m
+baseGathered w x o m = cond (covers w (base x) o) (insideGathered w x o m) m
 
 -- of none
 abbrev pub noneGathered : Masks

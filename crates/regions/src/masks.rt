@@ -17,7 +17,7 @@ ghost use Prim.Native.Nat.{_+_, _*_, _≤_, _<_};
 ghost use lib.ListN.{length};
 ghost use Rattle.regions.specs.Words.{base, endAt, regionWords};
 ghost use Rattle.regions.specs.Rules.{covers};
-ghost use Rattle.regions.specs.Masks.{Next, Passed, baseGathered, masks, noneGathered, opening, subGathered};
+ghost use Rattle.regions.specs.Masks.{Next, Passed, baseGathered, masks, noneGathered, opening, subGathered, withBase, withSub};
 
 // What the base regions that cover say, of those that were looked at.
 pub(crate) struct Masks {
@@ -65,17 +65,24 @@ fn opening(cfgr: u32, srcid: Cid) -> u32
     ((cfgr >> RDEN) % 2 + 0x100 + (cfgr >> WREN) % 2 * 0x1_0000) << srcid.0
 }
 
-// With what subregion s of base region x, which covers, says.
-fn sub_gathered(w: &[u32], x: usize, s: usize, o: u32, m: Masks) -> Masks
-    requires { ⌜ (base x + regionWords ≤ length (now w)) × (s < 2) ⌝ }
-    ensures { λ r. ⌜ r ≡ subGathered (now (w .entry)) x s o m ⌝ }
+// With the words of a base region that covers.
+pub(crate) fn with_base(cfgr: u32, cidcfgr: u32, m: Masks) -> Masks
+    ensures { λ r. ⌜ r ≡ withBase cfgr cidcfgr m ⌝ }
 {
-    let p = REGION_WORDS * x + BASE_WORDS + SUBREGION_WORDS * s;
-    if !covers(w, p, o) {
-        return m;
+    Masks {
+        some: m.some | cfgr,
+        every: m.every & cfgr,
+        enables: m.enables & cidcfgr,
+        secure: m.secure,
+        privileged: m.privileged,
+        opens: m.opens,
     }
-    let base = w[REGION_WORDS * x];
-    let sub = w[p];
+}
+
+// With CFGR of a subregion that counts, and of its base region.
+pub(crate) fn with_sub(base: u32, sub: u32, m: Masks) -> Masks
+    ensures { λ r. ⌜ r ≡ withSub base sub m ⌝ }
+{
     let srcid = Cid((sub >> SRCID) % COMPARTMENTS);
     let opens = m.opens | opening(sub, srcid);
     Masks {
@@ -88,8 +95,20 @@ fn sub_gathered(w: &[u32], x: usize, s: usize, o: u32, m: Masks) -> Masks
     }
 }
 
+// With what subregion s of base region x, which covers, says.
+fn sub_gathered(w: &[u32], x: usize, s: usize, o: u32, m: Masks) -> Masks
+    requires { ⌜ (base x + regionWords ≤ length (now w)) × (s < 2) ⌝ }
+    ensures { λ r. ⌜ r ≡ subGathered (now (w .entry)) x s o m ⌝ }
+{
+    let p = REGION_WORDS * x + BASE_WORDS + SUBREGION_WORDS * s;
+    if !covers(w, p, o) {
+        return m;
+    }
+    with_sub(w[REGION_WORDS * x], w[p], m)
+}
+
 // With what base region x and its subregions say: nothing where it does not cover.
-pub(crate) fn base_gathered(w: &[u32], x: usize, o: u32, m: Masks) -> Masks
+fn base_gathered(w: &[u32], x: usize, o: u32, m: Masks) -> Masks
     requires { ⌜ base x + regionWords ≤ length (now w) ⌝ }
     ensures { λ r. ⌜ r ≡ baseGathered (now (w .entry)) x o m ⌝ }
 {
@@ -97,15 +116,7 @@ pub(crate) fn base_gathered(w: &[u32], x: usize, o: u32, m: Masks) -> Masks
     if !covers(w, b, o) {
         return m;
     }
-    let cfgr = w[b];
-    let based = Masks {
-        some: m.some | cfgr,
-        every: m.every & cfgr,
-        enables: m.enables & w[b + CIDCFGR],
-        secure: m.secure,
-        privileged: m.privileged,
-        opens: m.opens,
-    };
+    let based = with_base(w[b], w[b + CIDCFGR], m);
     sub_gathered(w, x, 1, o, sub_gathered(w, x, 0, o, based))
 }
 

@@ -12,12 +12,15 @@ returns c = simp (← c .before .covers .ensures, not-true (c .before .covers .r
 returns-2 : tie.Need-returns-2
 unfolding baseGathered
 returns-2 c =
-    let b = c .before .before .before .before .before .before .before in
+    let d = c .before .before in
+    let b = d .before .before .before in
     simp (← b .before .covers .ensures, not-false (b .before .covers .result) (b .if1 .left))
-    (c .sub-gathered2 .ensures ∙ ap (subGathered _ _ 1 _) (c .before .sub-gathered .ensures))
+    (c .sub-gathered2 .ensures
+    ∙ ap (subGathered _ _ 1 _) (c .before .sub-gathered .ensures ∙ ap (subGathered _ _ 0 _) (d .with-base .ensures)))
 
 pub base-gathered-spec : {M : Type 1} → statement M
 base-gathered-spec =
     tie.close
     (tie.spec (λ c. search needs) (λ c κs. search needs) returns (λ c. search needs) (λ c. search needs)
-    (λ c. search needs) (λ c. search needs) (λ c. search needs) (λ c κs. search needs) (λ c κs. search needs) returns-2)
+    (λ c. search needs) (λ c. search needs) (λ c. search needs) (λ c κs. search needs) (λ c κs. search needs)
+    (λ c κs. search needs) returns-2)

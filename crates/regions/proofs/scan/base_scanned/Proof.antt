@@ -32,12 +32,19 @@ returns-3 c =
     (refl, refl)
 
 returns-4 : tie.Need-returns-4
-unfolding baseAhead
+unfolding baseGathered baseAhead
 returns-4 c =
     let d = c .before in
     let b = d .before .before in
     let r = c .inside-scanned .ensures in
-    simp (eq-eqb _ _ (b .before .before .if1 .left), le-ltb _ _ (b .if2 .left), le-ltb _ _ (d .if3 .left)) (r .0, r .1)
+    simp (
+      eq-eqb _ _ (b .before .before .if1 .left),
+      le-ltb _ _ (b .if2 .left),
+      le-leb _ _ (b .if2 .left),
+      le-ltb _ _ (d .if3 .left),
+      le-leb _ _ (d .if3 .left),
+    )
+    (r .0, r .1)
 
 pub base-scanned-spec : {M : Type 1} → statement M
 base-scanned-spec =
