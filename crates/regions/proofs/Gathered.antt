@@ -1,14 +1,15 @@
 -- The words of n base regions, gathered one after the other.
-use mathlib.Core.Bool.{Bool, false}
+use mathlib.Core.Bool.{Bool, true, false, cond}
 use mathlib.Core.List.{List}
 use mathlib.Core.Path.{_≡_, refl, sym, ap, _∙_}
 use Prim.Native.Nat.{ℕ, zero, suc, _+_, _<_}
 use native.Mathlib.Decide.{decLt}
 use native.Mathlib.Omega.{arith}
 use native.Mathlib.Numerals.{add-one}
-use Rattle.regions.specs.Words.{base}
+use lib.ListN.{getD}
+use Rattle.regions.specs.Words.{base, sub}
 use Rattle.regions.specs.Rules.{covers}
-use Rattle.regions.specs.Masks.{masks, baseGathered, Passed}
+use Rattle.regions.specs.Masks.{masks, withSub, subGathered, baseGathered, Passed}
 use Rattle.regions.specs.declared.masks.Masks.{Masks}
 
 -- ---- base regions that are passed by
@@ -38,3 +39,17 @@ pub masks-more : (w : List ℕ) (n o : ℕ) {l m : Masks} → l ≡ masks w n o 
     → m ≡ masks w (n + 1) o
 unfolding masks
 masks-more w n o el em = em ∙ ap (baseGathered w n o) el ∙ sym (ap (λ (i : ℕ). masks w i o) (add-one n))
+
+-- ---- a subregion, by whether it covers
+
+module _ (w : List ℕ) (x s o : ℕ) (m : Masks) where
+  abbrev counted : Masks
+  counted = withSub (getD w (base x) 0) (getD w (sub x s) 0) m
+
+  pub sub-out : covers w (sub x s) o ≡ false → m ≡ subGathered w x s o m
+  unfolding subGathered
+  sub-out e = sym (ap (λ (b : Bool). cond b counted m) e)
+
+  pub sub-in : covers w (sub x s) o ≡ true → counted ≡ subGathered w x s o m
+  unfolding subGathered
+  sub-in e = sym (ap (λ (b : Bool). cond b counted m) e)
