@@ -1,0 +1,13 @@
+pub mod Begun
+pub mod Cut
+pub mod Ends
+pub mod Goes
+pub mod Memory
+pub mod Obeyed
+pub mod Put
+pub mod Sample
+pub mod Stops
+pub mod Texts
+pub mod Took
+pub mod Turns
+pub mod Whole
