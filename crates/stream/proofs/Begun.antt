@@ -17,7 +17,7 @@ use Rattle.stream.specs.Stands.{Stands}
 use Rattle.stream.specs.Transcript.{linesIn}
 use Rattle.stream.specs.declared.blocks.Taken.{Taken}
 use Rattle.stream.specs.declared.kept.Held.{Held}
-use Rattle.stream.proofs.Memory.{kept-line, too-long}
+use Rattle.stream.proofs.Memory.{kept-line, kept-long, kept-most, too-long}
 use Rattle.stream.proofs.Stops.{goes-on, stands-at, stops-bad, stops-full, stops-last}
 use Rattle.stream.proofs.Turns.{end-within, part}
 
@@ -45,6 +45,12 @@ module _ (k : Kept) (block out : List ℕ) (at end : ℕ) (few : k .held .bytes 
 
     module _ {memory : List ℕ} {n : ℕ} (count : n ≡ keptCount (k .held .bytes) (take end block))
         (copied : memory ≡ keptIn (k .memory) (k .held .bytes) (take end block)) where
+      pub begun-fits : n ≤ length memory
+      begun-fits =
+          let b = k .held .bytes in
+          let full : length memory ≡ lineRoom = ap length copied ∙ kept-long (k .memory) (take end block) b long few in
+          omega (arith, count, full, kept-most (take end block) b few)
+
       same : commandOf (take n memory) ≡ commandOf (wholeLine k (part 0 end block))
       same =
           let b = k .held .bytes in

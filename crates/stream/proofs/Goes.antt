@@ -112,7 +112,7 @@ goes-last {s} {n} {p} bs h last =
       holds =
           record {
             long = kept-long (k .memory) bs b (h .long) (h .few);
-            few = kept-most (k .memory) bs b (h .long) (h .few);
+            few = kept-most bs b (h .few);
             number = h .number;
             line = holds-more h bs;
           };

@@ -30,11 +30,11 @@ kept-all memory l n i h =
     let e : i ≡ length (take (lineRoom - n) l) = h ∙ sym (length-take (lineRoom - n) l) in
     (ap (λ (k : ℕ). n + k) e, rw (e, take-taken (lineRoom - n) l))
 
-module _ (memory l : List ℕ) (n : ℕ) (long : length memory ≡ lineRoom) (few : n ≤ lineRoom) where
-  pub kept-most : keptCount n l ≤ lineRoom
-  unfolding keptCount
-  kept-most = omega (arith, length-take (lineRoom - n) l, few)
+pub kept-most : (l : List ℕ) (n : ℕ) → n ≤ lineRoom → keptCount n l ≤ lineRoom
+unfolding keptCount
+kept-most l n few = omega (arith, length-take (lineRoom - n) l, few)
 
+module _ (memory l : List ℕ) (n : ℕ) (long : length memory ≡ lineRoom) (few : n ≤ lineRoom) where
   pub kept-line : take (keptCount n l) (keptIn memory n l) ≡ take n memory ++ take (lineRoom - n) l
   unfolding keptCount keptIn
   kept-line =

@@ -1,4 +1,4 @@
--- How much a call takes: no more than it is given, and something where there is room for the longest text.
+-- How much a call takes: no more than it is given, and something where there is room for the longest text. How much is kept.
 use mathlib.Core.Bool.{Bool, true, false, cond}
 use mathlib.Core.List.{List, [], _∷_}
 use mathlib.Core.Path.{_≡_, refl}
@@ -8,9 +8,10 @@ use borrow.Author.Tests.{eq-eqb, le-leb}
 use lib.Dec.{eqb}
 use lib.ListN.{length}
 use Rattle.response.specs.Response.{roomForLongest}
-use Rattle.stream.specs.Blocks.{Place, behind, called, fits, keeping, placeAt, stop}
+use Rattle.stream.specs.Blocks.{Place, behind, called, fits, keeping, keptBehind, placeAt, stop}
 use Rattle.stream.specs.Kept.{Kept, lineRoom}
 use Rattle.stream.specs.Transcript.{Lines, before, feed, line, linesIn, rest}
+use Rattle.stream.proofs.Memory.{kept-most}
 
 -- the bytes of lines, with their feeds
 unfoldable size : Lines → ℕ
@@ -39,6 +40,17 @@ stop-took (line l more) s = go (roomForLongest (s .out) (s .at)) (behind s l .ba
     go true false h = (omega (arith, h .0), omega (arith, h .1))
     go false b h = (omega arith, omega arith)
 
+stop-few : (ls : Lines) (s : Place) → s .kept .held .bytes ≤ lineRoom → stop s ls .kept .held .bytes ≤ lineRoom
+unfolding stop behind keptBehind keeping
+stop-few (rest l) s few = kept-most l (s .kept .held .bytes) few
+stop-few (line l more) s few = go (roomForLongest (s .out) (s .at)) (behind s l .bad) (stop-few more (behind s l) (omega arith))
+  where
+    go : (t b : Bool) → stop (behind s l) more .kept .held .bytes ≤ lineRoom
+        → cond t (cond b (behind s l) (stop (behind s l) more)) s .kept .held .bytes ≤ lineRoom
+    go true true h = omega arith
+    go true false h = h
+    go false b h = few
+
 module _ (k : Kept) (block out : List ℕ) (at : ℕ) where
   pub takes-most : called k block out at .took ≤ length block
   unfolding called
@@ -47,6 +59,15 @@ module _ (k : Kept) (block out : List ℕ) (at : ℕ) where
       go : (t : Bool) → cond t (stop (placeAt 0 k out at) (linesIn block)) (placeAt 0 k out at) .took ≤ length block
       go true = omega (arith, stop-took (linesIn block) (placeAt 0 k out at) .1, size-lines block)
       go false = omega arith
+
+  -- at most lineRoom bytes of a line are kept
+  pub keeps-few : k .held .bytes ≤ lineRoom → called k block out at .kept .held .bytes ≤ lineRoom
+  unfolding called
+  keeps-few few = go (fits k)
+    where
+      go : (t : Bool) → cond t (stop (placeAt 0 k out at) (linesIn block)) (placeAt 0 k out at) .kept .held .bytes ≤ lineRoom
+      go true = stop-few (linesIn block) (placeAt 0 k out at) few
+      go false = few
 
   pub takes-some : 0 < length block → length (k .memory) ≡ lineRoom → k .held .bytes ≤ lineRoom → roomForLongest out at ≡ true
       → 0 < called k block out at .took

@@ -29,55 +29,61 @@ loop-holds c = (refl, refl, c .before .before .before .before .before .pre .0, c
 
 returns : tie.Need-returns Inv-loop μ-loop
 returns c =
-    let a = c .before .before .before .before .before .before .before .before .before .before .before .before .before .before .before .before .before .args in
-    let l = c .before .before .before .before .before .before .before .before .before .before .before .loop in
-    let e = c .before .before .before .before .before .before .end-line in
+    let ended = c .before .before .before .before .before .before in
+    let turn = ended .before .before .before .before .before in
+    let a = turn .before .before .before .before .before .before .args in
+    let l = turn .loop in
+    let e = ended .end-line .ensures in
     let x = part (l .start) (l .end) (a .block .now) in
     let k = keptOf (nothingOf (l .next)) (a .line .now) (l .state) in
-    stops-full (a .block .now) (l .start) (l .end) k (l .out) (l .place) (l .inv .3) (l .inv .2) (l .inv .4) (c .before .before .before .before .before .before .before .before .before .before .loop-test .taken)
-    (stays x (l .next) (l .state) (l .out) (l .place) (e .ensures .0) (e .ensures .1 .1 .0) (c .before .if1 .taken))
-    (stays-left x (l .next) (l .state) (l .out) (l .place) (e .ensures .0) (e .ensures .1 .1 .0) (e .ensures .1 .1 .1) (c .before .if1 .taken))
-    (c .stopped .ensures)
+    let same = c .before .if1 .taken in
+    stops-full (a .block .now) (l .start) (l .end) k (l .out) (l .place) (l .inv .3) (l .inv .2) (l .inv .4) (ended .before .before .before .before .loop-test .taken)
+    (stays x (l .next) (l .state) (l .out) (l .place) (e .0) (e .1 .1 .0) same)
+    (stays-left x (l .next) (l .state) (l .out) (l .place) (e .0) (e .1 .1 .0) (e .1 .1 .1) same) (c .stopped .ensures)
 
 returns-2 : tie.Need-returns-2 Inv-loop μ-loop
 returns-2 c =
-    let a = c .before .before .before .before .before .before .before .before .before .before .before .before .before .before .before .before .before .before .args in
-    let l = c .before .before .before .before .before .before .before .before .before .before .before .before .loop in
-    let e = c .before .before .before .before .before .before .before .end-line in
+    let ended = c .before .before .before .before .before .before .before in
+    let turn = ended .before .before .before .before .before in
+    let a = turn .before .before .before .before .before .before .args in
+    let l = turn .loop in
+    let e = ended .end-line .ensures in
     let x = part (l .start) (l .end) (a .block .now) in
     let k = keptOf (nothingOf (l .next)) (a .line .now) (l .state) in
-    stops-bad (a .block .now) (l .start) (l .end) k (l .out) (l .place) (l .inv .3) (l .inv .2) (l .inv .4) (c .before .before .before .before .before .before .before .before .before .before .before .loop-test .taken)
-    x refl (e .ensures .0) (e .ensures .1 .0) (e .ensures .1 .1 .0) (e .ensures .1 .1 .1) refl
-    (moves x (l .next) (l .state) (l .out) (l .place) (e .ensures .0) (e .ensures .1 .1 .0) (c .before .before .if1 .left))
-    (c .before .if2 .taken) (c .behind-bad .ensures)
+    let room = moves x (l .next) (l .state) (l .out) (l .place) (e .0) (e .1 .1 .0) (c .before .before .if1 .left) in
+    stops-bad (a .block .now) (l .start) (l .end) k (l .out) (l .place) (l .inv .3) (l .inv .2) (l .inv .4) (ended .before .before .before .before .loop-test .taken)
+    x refl (e .0) (e .1 .0) (e .1 .1 .0) (e .1 .1 .1) refl room (c .before .if2 .taken) (c .behind-bad .ensures)
 
 loop-again : tie.Need-loop-again Inv-loop μ-loop
 loop-again c =
-    let a = c .before .before .before .before .before .before .before .before .before .before .before .before .before .before .before .before .before .before .before .args in
-    let l = c .before .before .before .before .before .before .before .before .before .before .before .before .before .loop in
-    let e = c .before .before .before .before .before .before .before .before .end-line in
+    let ended = c .before .before .before .before .before .before .before .before in
+    let turn = ended .before .before .before .before .before in
+    let a = turn .before .before .before .before .before .before .args in
+    let l = turn .loop in
+    let e = ended .end-line .ensures in
+    let kept = ended .end-line .kept in
     let x = part (l .start) (l .end) (a .block .now) in
     let k = keptOf (nothingOf (l .next)) (a .line .now) (l .state) in
-    let more = c .before .before .before .before .before .before .before .before .before .before .before .before .loop-test .taken in (
-      e .kept .1 .1 .0 ∙ l .inv .0,
-      e .kept .1 .1 .1 .0 ∙ l .inv .1,
+    let more = ended .before .before .before .before .loop-test .taken in
+    let room = moves x (l .next) (l .state) (l .out) (l .place) (e .0) (e .1 .1 .0) (c .before .before .before .if1 .left) in (
+      kept .1 .1 .0 ∙ l .inv .0,
+      kept .1 .1 .1 .0 ∙ l .inv .1,
       omega (arith, more),
       c .line-end2 .ensures,
       goes-on (a .block .now) (l .start) (l .end) k (l .out) (l .place) (l .inv .3) (l .inv .2) (l .inv .4) more
-          x refl (e .ensures .0) (e .ensures .1 .0) (e .ensures .1 .1 .0) (e .ensures .1 .1 .1) refl
-          (moves x (l .next) (l .state) (l .out) (l .place) (e .ensures .0) (e .ensures .1 .1 .0) (c .before .before .before .if1 .left))
-          (c .before .before .if2 .left) (c .before .wrapping-add-u64 .ensures),
+          x refl (e .0) (e .1 .0) (e .1 .1 .0) (e .1 .1 .1) refl room (c .before .before .if2 .left) (c .before .wrapping-add-u64 .ensures),
     )
 
 returns-3 : tie.Need-returns-3 Inv-loop μ-loop
 returns-3 c =
-    let a = c .before .before .before .before .before .before .before .before .before .before .before .before .before .args in
-    let l = c .before .before .before .before .before .before .before .loop in
-    let e = c .before .before .before .keep in
+    let turn = c .before .before .before .before .before .before .before in
+    let a = turn .before .before .before .before .before .before .args in
+    let l = turn .loop in
+    let e = c .before .before .before .keep .ensures in
     let k = keptOf (nothingOf (l .next)) (a .line .now) (l .state) in
     stops-last (a .block .now) (l .start) (l .end) k (l .out) (l .place) (l .inv .3) (l .inv .2) (l .inv .4)
-    (part (l .start) (length (a .block .now)) (a .block .now)) (part-left (a .block .now) (l .start)) (c .before .before .before .before .before .before .loop-test .left)
-    (e .ensures .0) (e .ensures .1) (c .stopped2 .ensures)
+    (part (l .start) (length (a .block .now)) (a .block .now)) (part-left (a .block .now) (l .start)) (c .before .before .before .before .before .before .loop-test .left) (e .0) (e .1)
+    (c .stopped2 .ensures)
 
 pub take-lines-spec : {M : Type 1} → statement M
 take-lines-spec =
