@@ -1,5 +1,4 @@
 // What differs between the maps of each guard of two states, printed.
-use crate::run::front;
 use diff::used_part;
 use libc::STDOUT_FILENO;
 use risaf::GUARD_NUMBERS;
@@ -44,6 +43,14 @@ fn put_guard(out: &mut [u8], old: &[u32], new: &[u32], guard: GuardNumber) -> us
     let a = print_guard(out, 0, guard);
     let b = put_rows(out, a, rows);
     print_end(out, b, (rows.len() / diff::fill::ROW_NUMBERS) as u64)
+}
+
+// The first n bytes, or all of them where there are fewer.
+fn front(bytes: &[u8], n: usize) -> &[u8] {
+    if n <= bytes.len() {
+        return &bytes[..n];
+    }
+    bytes
 }
 
 // Prints the sheet of a guard. Whether it could.

@@ -1,6 +1,7 @@
 pub mod Begun
 pub mod Cut
 pub mod Ends
+pub mod Given
 pub mod Goes
 pub mod Memory
 pub mod Obeyed

@@ -1,27 +1,37 @@
 // The program: a script on standard input, answers and maps on standard output, as README.md says.
-mod input;
+mod blocks;
 mod output;
 
-use device::Event;
-use input::Held;
-use input::turn;
-use output::print_unfinished;
+use blocks::Going;
+use blocks::read_block;
+use output::flush;
+use stream::LINE_ROOM;
+ghost use mathlib.Core.Path.{_≡_};
+ghost use Prim.Native.Nat.{_≤_};
+ghost use lib.ListN.{length};
+ghost use Rattle.response.specs.Response.{most};
+ghost use Rattle.stream.specs.Kept.{lineRoom};
 
-// Turns through the input until it ends. A proved loop has to end, and nothing says that the input does: so it counts its turns down,
-// from a number that no run uses up.
-fn run(state: &mut [u32], block: &mut [u8], line: &mut [u8], out: &mut [u8]) {
-    let mut held = Held {
-        bytes: 0,
-        number: 1,
+// Reads and takes block by block until the input ends or the output cannot be written. A proved loop has to end, and nothing says that
+// the input does: so it counts its turns down, from a number that no run uses up.
+fn run(state: &mut [u32], block: &mut [u8], line: &mut [u8], out: &mut [u8])
+    requires { ⌜ (length (now line) ≡ lineRoom) × (most ≤ length (now out)) ⌝ }
+{
+    let mut going = Going {
+        held: stream::start(state),
         more: true,
+        fine: true,
     };
     let mut turns = u64::MAX;
-    while 0 < turns && held.more {
-        held = turn(state, block, line, out, held);
+    while 0 < turns && going.more {
+        let held = going.held;
+        going = read_block(state, block, line, out, held);
         turns -= 1;
     }
-    if 0 < held.bytes {
-        print_unfinished(out, held.number);
+    if going.fine {
+        let held = going.held;
+        let at = stream::finish(held, out, 0);
+        flush(out, at);
     }
 }
 
@@ -34,9 +44,8 @@ fn main() {
         return;
     }
     let mut state = [0u32; device::STATE_WORDS];
-    device::apply(&mut state, Event::Reset);
     let mut block = io::large_buffer();
-    let mut line = [0u8; 65];
+    let mut line = [0u8; LINE_ROOM];
     let mut out = io::large_buffer();
     run(&mut state, &mut block, &mut line, &mut out);
 }

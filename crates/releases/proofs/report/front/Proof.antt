@@ -2,8 +2,8 @@ use borrow.Author.Needs.{needs}
 use mathlib.Core.Path.{sym}
 use lib.Seq.{length-take-le}
 use denote.Ref.{now}
-use Rattle.releases.proofs.run.front.Statement.{statement}
-use Rattle.releases.proofs.run.front.Tie as tie
+use Rattle.releases.proofs.report.front.Statement.{statement}
+use Rattle.releases.proofs.report.front.Tie as tie
 
 slice-aggregate-result : tie.Need-slice-aggregate-result
 slice-aggregate-result c = sym (length-take-le _ (now (c .before .before .args .bytes)) (c .before .if1 .taken))
