@@ -124,13 +124,37 @@ place-short (s ∷ []) x h = refl
 place-short (s ∷ e ∷ []) x h = refl
 place-short (s ∷ e ∷ q ∷ rest) x h = absurd (omega arith)
 
-module _ (m : List ℕ) (i x : ℕ) (h : i + 3 ≤ length m) where
-  one-row : rowPlace (drop i m) x ≡ cond (encloses (getD m i 0) (getD m (i + 1) 0) x) 0 (rowPlace (drop (i + 3) m) x + 3)
+-- behind the first i numbers the place in the rows that are left is that in the whole
+abbrev pub Passed : List ℕ → ℕ → ℕ → Type 0
+Passed m x i = (i ≤ length m) × (i + rowPlace (drop i m) x ≡ rowPlace m x)
+
+-- the row from i on encloses x
+abbrev pub encloses-at : List ℕ → ℕ → ℕ → Bool
+encloses-at m x i = encloses (getD m i 0) (getD m (i + 1) 0) x
+
+module _ (m : List ℕ) (x i : ℕ) (h : i + 3 ≤ length m) (p : Passed m x i) where
+  one-row : rowPlace (drop i m) x ≡ cond (encloses-at m x i) 0 (rowPlace (drop (i + 3) m) x + 3)
   unfolding rowPlace
   one-row = rw (three m i h)
 
-  pub place-here : getD m i 0 ≤ x → x ≤ getD m (i + 1) 0 → rowPlace (drop i m) x ≡ 0
-  place-here l u = one-row ∙ simp (inside (getD m i 0) (getD m (i + 1) 0) x l u)
+  pub place-here : encloses-at m x i ≡ true → i ≡ rowPlace m x
+  place-here e =
+      let r : rowPlace (drop i m) x ≡ 0 = one-row ∙ simp e in
+      omega (arith, r, p .1)
 
-  pub place-later : (x < getD m i 0) ⊎ (getD m (i + 1) 0 < x) → rowPlace (drop i m) x ≡ rowPlace (drop (i + 3) m) x + 3
-  place-later o = one-row ∙ simp (outside (getD m i 0) (getD m (i + 1) 0) x o)
+  pub place-later : (j : ℕ) → j ≡ i + 3 → encloses-at m x i ≡ false → Passed m x j
+  place-later j s e =
+      let r : rowPlace (drop i m) x ≡ rowPlace (drop (i + 3) m) x + 3 = one-row ∙ simp e in
+      rw s (h, omega (arith, r, p .1))
+
+-- ---- four rows, each passed behind the one before
+
+module _ (m : List ℕ) (x i : ℕ) (h : i + 12 ≤ length m) (p : Passed m x i) (e : encloses-at m x i ≡ false) where
+  pub passed-two : encloses-at m x (i + 3) ≡ false → Passed m x (i + 6)
+  passed-two = place-later m x (i + 3) (omega arith) (place-later m x i (omega arith) p (i + 3) refl e) (i + 6) (omega arith)
+
+  pub passed-three : encloses-at m x (i + 3) ≡ false → encloses-at m x (i + 6) ≡ false → Passed m x (i + 9)
+  passed-three f = place-later m x (i + 6) (omega arith) (passed-two f) (i + 9) (omega arith)
+
+  pub passed-four : encloses-at m x (i + 3) ≡ false → encloses-at m x (i + 6) ≡ false → encloses-at m x (i + 9) ≡ false → Passed m x (i + 12)
+  passed-four f g = place-later m x (i + 9) (omega arith) (passed-three f g) (i + 12) (omega arith)
