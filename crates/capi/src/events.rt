@@ -148,10 +148,14 @@ pub extern "C" fn rif_master(
     device::apply_master(state, access).encoded()
 }
 
-// The interrupt line.
+// The interrupt line. Where the length is known the answer is, and needs no look to be encoded.
 #[no_mangle]
 pub extern "C" fn rif_line(state: &[u32]) -> u64
     ensures { λ r. ⌜ r ≡ encodedOf (lineAnswer (now (state .entry))) ⌝ }
 {
-    device::interrupt_line(state).encoded()
+    if state.len() == device::STATE_WORDS {
+        device::interrupt_line(state).encoded()
+    } else {
+        Answer::Rejected(Why::WrongLength).encoded()
+    }
 }
