@@ -26,7 +26,7 @@ ghost use Rattle.device.specs.Layout.{stateOf, stateWords};
 ghost use Rattle.device.specs.State.{withRifsc};
 
 // The word stored for a register.
-fn stored(state: &[u32], reg: Register) -> u32
+pub(crate) fn stored(state: &[u32], reg: Register) -> u32
     requires { ⌜ length (now state) ≡ stateWords ⌝ }
     ensures { λ r. ⌜ r ≡ stored (stateOf (now (state .entry)) .rifsc) reg ⌝ }
 {

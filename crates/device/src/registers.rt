@@ -1,5 +1,6 @@
 use crate::controller::load_seen;
 use crate::controller::store_register;
+use crate::controller::stored;
 use crate::flags::load_word;
 use crate::flags::raise;
 use crate::flags::rewrite;
@@ -8,9 +9,11 @@ use crate::guards::store_word;
 use access::Answer;
 use access::Flag;
 use access::Request;
+use access::Why;
 use iac::Seen;
 use risaf::GuardNumber;
 use risaf::IASR;
+ghost use mathlib.Core.Bool.{false};
 ghost use mathlib.Core.Path.{_≡_};
 ghost use lib.ListN.{length};
 ghost use Rattle.device.specs.Layout.{stateOf, stateWords};
@@ -22,25 +25,51 @@ const RIFSC_FLAG: Flag = Flag(158);
 
 const IAC_FLAG: Flag = Flag(138);
 
+// A read of the controller's registers, which leaves the state.
+fn read_rifsc(state: &[u32], q: Request) -> Answer
+    requires { ⌜ (length (now state) ≡ stateWords) × (q .write ≡ false) ⌝ }
+    ensures answer { λ r. ⌜ r ≡ registerStep Rifsc q (stateOf (now (state .entry))) .answer ⌝ }
+    ensures next { λ _. ⌜ stateOf (now (state .entry)) ≡ registerStep Rifsc q (stateOf (now (state .entry))) .next ⌝ }
+{
+    let reg = rifsc::register_at(q.offset);
+    reg.row().read(stored(state, reg), q.offset)
+}
+
 // A register access to the controller: what it needs is taken by value, and one word is stored.
 pub(crate) fn access_rifsc(state: &mut [u32], q: Request) -> Answer
     requires { ⌜ length (now state) ≡ stateWords ⌝ }
     ensures answer { λ r. ⌜ r ≡ registerStep Rifsc q (stateOf (now (state .entry))) .answer ⌝ }
     ensures next { λ _. ⌜ stateOf (now (state .exit)) ≡ registerStep Rifsc q (stateOf (now (state .entry))) .next ⌝ }
 {
+    if q.offset % 4 != 0 {
+        return Answer::Rejected(Why::Misaligned);
+    }
+    if !q.write {
+        return read_rifsc(state, q);
+    }
     let reg = rifsc::register_at(q.offset);
     let row = reg.row();
     let accessed = load_seen(state, reg, row).access(reg, row, q);
     let answer = accessed.answer;
     let next = accessed.next;
     match answer {
-        Answer::Done(_) => {
-            if q.write {
-                store_register(state, reg, next.word);
-            }
-        }
+        Answer::Done(_) => store_register(state, reg, next.word),
         Answer::Refused(_) => raise(state, RIFSC_FLAG),
         Answer::Rejected(_) => {}
+    }
+    answer
+}
+
+// A read of the registers of the IAC: refused, it raises a flag.
+fn read_iac(state: &mut [u32], q: Request) -> Answer
+    requires { ⌜ (length (now state) ≡ stateWords) × (q .write ≡ false) ⌝ }
+    ensures answer { λ r. ⌜ r ≡ registerStep Iac q (stateOf (now (state .entry))) .answer ⌝ }
+    ensures next { λ _. ⌜ stateOf (now (state .exit)) ≡ registerStep Iac q (stateOf (now (state .entry))) .next ⌝ }
+{
+    let reg = iac::register_at(q.offset);
+    let answer = reg.row().read(load_word(state, reg), q);
+    if let Answer::Refused(_) = answer {
+        raise(state, IAC_FLAG);
     }
     answer
 }
@@ -51,6 +80,12 @@ pub(crate) fn access_iac(state: &mut [u32], q: Request) -> Answer
     ensures answer { λ r. ⌜ r ≡ registerStep Iac q (stateOf (now (state .entry))) .answer ⌝ }
     ensures next { λ _. ⌜ stateOf (now (state .exit)) ≡ registerStep Iac q (stateOf (now (state .entry))) .next ⌝ }
 {
+    if q.offset % 4 != 0 {
+        return Answer::Rejected(Why::Misaligned);
+    }
+    if !q.write {
+        return read_iac(state, q);
+    }
     let reg = iac::register_at(q.offset);
     let row = reg.row();
     let seen = Seen {
@@ -60,11 +95,7 @@ pub(crate) fn access_iac(state: &mut [u32], q: Request) -> Answer
     let answer = accessed.answer;
     let next = accessed.next;
     match answer {
-        Answer::Done(_) => {
-            if q.write {
-                rewrite(state, reg, row.named, seen.word, next.word);
-            }
-        }
+        Answer::Done(_) => rewrite(state, reg, row.named, seen.word, next.word),
         Answer::Refused(_) => raise(state, IAC_FLAG),
         Answer::Rejected(_) => {}
     }

@@ -2,13 +2,11 @@ use crate::Register;
 use crate::registers::Row;
 use crate::registers::iisr;
 use access::Answer;
-use access::Checks;
 use access::Request;
-ghost use mathlib.Core.Bool.{_&&_, _||_, not, true};
+use access::Why;
+ghost use mathlib.Core.Bool.{_&&_, _||_, not};
 ghost use mathlib.Core.Path.{_≡_};
-ghost use Prim.Native.Nat.{_%_};
-ghost use lib.Dec.{eqb};
-ghost use Rattle.iac.specs.Port.{accessed, answerOf, wordWritten};
+ghost use Rattle.iac.specs.Port.{accessed, readAnswer, wordWritten};
 
 // What an access to a register needs of the IAC, by value: the register's own word, for ICR the word of ISR.
 pub struct Seen {
@@ -34,45 +32,62 @@ fn word_written(reg: Register, old: u32, value: u32) -> u32
     }
 }
 
-// The checks of an access to a register with this row; it can be written, or read, by direction.
-fn checks(row: Row, q: Request, direction: bool) -> Checks
-    ensures { λ r. ⌜ r ≡ record { present = true; aligned = eqb (q .offset % 4) 0; inside = true; fetchless = true; known = row .known; allowed = not (row .guarded) || q .secure && q .privileged; direction = direction; unlocked = true } ⌝ }
-{
-    Checks {
-        present: true,
-        aligned: q.offset % 4 == 0,
-        inside: true,
-        fetchless: true,
-        known: row.known,
-        allowed: !row.guarded | (q.secure & q.privileged),
-        direction,
-        unlocked: true,
+impl Row {
+    // The rights suffice, to read or to write.
+    fn admits(self, q: Request) -> bool
+        ensures { λ r. ⌜ r ≡ (not (self .guarded) || q .secure && q .privileged) ⌝ }
+    {
+        !self.guarded | (q.secure & q.privileged)
     }
-}
 
-// The answer to an access to a register with this row, whose stored word is old.
-fn answer(row: Row, old: u32, q: Request) -> Answer
-    ensures { λ r. ⌜ r ≡ answerOf row old q ⌝ }
-{
-    if q.write {
-        return checks(row, q, row.writable).answer(0);
+    // The answer to a read of a register with this row, whose stored word is old.
+    pub fn read(self, old: u32, q: Request) -> Answer
+        ensures { λ r. ⌜ r ≡ readAnswer self old q ⌝ }
+    {
+        if q.offset % 4 != 0 {
+            return Answer::Rejected(Why::Misaligned);
+        }
+        if !self.known {
+            return Answer::Rejected(Why::NoRegister);
+        }
+        if !self.admits(q) {
+            return Answer::Refused(0);
+        }
+        if !self.readable {
+            return Answer::Rejected(Why::NoRegister);
+        }
+        Answer::Done(words::united(words::masked(old, self.named), self.fixed))
     }
-    let read = words::united(words::masked(old, row.named), row.fixed);
-    checks(row, q, row.readable).answer(read)
 }
 
 impl Seen {
+    // All as it was, with an answer.
+    fn left(self, answer: Answer) -> Accessed
+        ensures { λ r. ⌜ r ≡ record { next = self; answer = answer } ⌝ }
+    {
+        Accessed { next: self, answer }
+    }
+
     // An access to a register with this row. A write that is done leaves another word.
     pub fn access(mut self, reg: Register, row: Row, q: Request) -> Accessed
         ensures { λ r. ⌜ r ≡ accessed reg row self q ⌝ }
     {
-        let answer = answer(row, self.word, q);
-        if let Answer::Done(_) = answer {
-            if q.write {
-                let word = word_written(reg, self.word, q.value);
-                self.word = word;
-            }
+        if !q.write {
+            return self.left(row.read(self.word, q));
         }
-        Accessed { next: self, answer }
+        if q.offset % 4 != 0 {
+            return self.left(Answer::Rejected(Why::Misaligned));
+        }
+        if !row.known {
+            return self.left(Answer::Rejected(Why::NoRegister));
+        }
+        if !row.admits(q) {
+            return self.left(Answer::Refused(0));
+        }
+        if !row.writable {
+            return self.left(Answer::Rejected(Why::NoRegister));
+        }
+        self.word = word_written(reg, self.word, q.value);
+        self.left(Answer::Done(0))
     }
 }

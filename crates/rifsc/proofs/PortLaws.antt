@@ -1,14 +1,21 @@
--- The bits that a write takes, as the code makes them.
+-- The bits that a write takes, as the code makes them, and the answer to a read.
 use mathlib.Core.Bool.{Bool, true, false, not, _&&_, _||_, cond, and-true}
 use mathlib.Core.Path.{_≡_, refl, sym, _∙_}
-use Prim.Native.Nat.{ℕ}
+use Prim.Native.Nat.{ℕ, _%_}
 use lib.Dec.{eqb}
-use Rattle.words.specs.Bit.{bit, word, field, masked, less, united}
+use Rattle.words.specs.Bit.{bit, word, field, masked, less, merged, united}
 use Rattle.words.proofs.Laws.{bit-less, less-lt, word-ext}
-use Rattle.words.proofs.Masks.{united-masked}
-use Rattle.rifsc.specs.Port.{attrBits, takes}
+use Rattle.words.proofs.Masks.{merged-word, united-masked}
+use Rattle.access.specs.Answer.{left}
+use Rattle.access.specs.Checks.{answeredWith, reachedWith}
+use Rattle.access.specs.declared.answer.Answer.{Answer}
+use Rattle.access.specs.declared.answer.Answer.the-variants.{Done, Refused, Rejected}
+use Rattle.access.specs.declared.request.Request.{Request}
+use Rattle.rifsc.specs.Port.{accessed, answerOf, attrBits, checksOf, readAnswer, takes, withSeenWord, wordWritten}
+use Rattle.rifsc.specs.declared.port.Accessed.{Accessed}
 use Rattle.rifsc.specs.declared.port.Seen.{Seen}
 use Rattle.rifsc.specs.declared.registers.Row.{Row}
+use Rattle.rifsc.specs.declared.registers.Register.{Register}
 use Rattle.rifsc.specs.declared.registers.Register.the-variants.{Privcfgr, Rimccr, Attr}
 
 -- of a PRIV write
@@ -36,3 +43,38 @@ attr-taken m row v value secure = go (eqb (field value 4 3) 7)
     go : (b : Bool) → cond b 0x0000_0300 0x0000_0370 ≡ word 32 (bit (cond b 0x0000_0300 0x0000_0370))
     go true = refl
     go false = refl
+
+-- ---- a read
+
+pub read-is : (row : Row) (locked : Bool) (stored : ℕ) (q : Request) → q .write ≡ false
+    → answerOf row locked stored q ≡ readAnswer row stored (q .offset)
+unfolding answerOf checksOf answeredWith reachedWith readAnswer
+read-is row locked stored q w = rw w refl
+
+-- leaves all as it was
+abbrev leaving : Seen → Answer → Accessed
+leaving v a = record { next = v; answer = a }
+
+same : (v : Seen) (a : Answer) → leaving v a ≡ leaving (left a v v v) a
+same v (Done x) = refl
+same v (Refused x) = refl
+same v (Rejected why) = refl
+
+pub read-left : (reg : Register) (row : Row) (v : Seen) (q : Request) → q .write ≡ false
+    → leaving v (readAnswer row (v .word) (q .offset)) ≡ accessed reg row v q
+unfolding accessed
+read-left reg row v q w = rw (read-is row (v .locked) (v .word) q w, w) (same v (readAnswer row (v .word) (q .offset)))
+
+-- ---- a write that passes every test
+
+module _ (reg : Register) (row : Row) (v : Seen) (q : Request) (w : q .write ≡ true) (a : eqb (q .offset % 4) 0 ≡ true)
+    (k : row .known ≡ true) (r : (q .privileged && (q .secure || not (row .secure))) ≡ true) (d : row .writable ≡ true)
+    (l : v .locked ≡ false) where
+  done : answerOf row (v .locked) (v .word) q ≡ Done 0
+  unfolding answerOf checksOf answeredWith reachedWith
+  done = simp (w, a, k, r, d, l)
+
+  pub write-left : {x : ℕ} → x ≡ merged 32 (v .word) (q .value) (word 32 (takes reg row v (q .value) (q .secure)))
+      → leaving (withSeenWord v x) (Done 0) ≡ accessed reg row v q
+  unfolding accessed wordWritten
+  write-left e = rw (done, w, e, merged-word 32 (v .word) (q .value) (takes reg row v (q .value) (q .secure))) refl

@@ -4,10 +4,12 @@ use Prim.Native.Nat.{ℕ, _%_}
 use lib.Dec.{eqb}
 use Rattle.words.specs.Bit.{bit, word, field, masked, united}
 use Rattle.access.specs.Answer.{left}
-use Rattle.access.specs.Checks.{answered}
+use Rattle.access.specs.Checks.{answered, unless}
 use Rattle.access.specs.Kind.{debugger}
 use Rattle.access.specs.Request.{gives}
 use Rattle.access.specs.declared.answer.Answer.{Answer}
+use Rattle.access.specs.declared.answer.Answer.the-variants.{Done, Rejected}
+use Rattle.access.specs.declared.answer.Why.the-variants.{Misaligned, NoRegister}
 use Rattle.access.specs.declared.checks.Checks.{Checks}
 use Rattle.access.specs.declared.request.Request.{Request}
 use Rattle.rifsc.specs.Registers.{registerAt, rowOf}
@@ -65,6 +67,11 @@ checksOf row locked q =
 
 unfoldable pub answerOf : Row → Bool → ℕ → Request → Answer
 answerOf row locked stored q = answered (checksOf row locked q) (gives q (readOf row stored))
+
+-- of a read, by its offset: what code goes by
+unfoldable pub readAnswer : Row → ℕ → ℕ → Answer
+readAnswer row stored offset =
+    unless (eqb (offset % 4) 0) (Rejected Misaligned) (unless (row .known) (Rejected NoRegister) (Done (readOf row stored)))
 
 -- ---- an access to what it needs of the controller, by value
 

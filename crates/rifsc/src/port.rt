@@ -7,15 +7,13 @@ use crate::registers::DAPCID;
 use crate::registers::GLOCK;
 use crate::registers::Row;
 use access::Answer;
-use access::Checks;
 use access::DEBUGGER;
 use access::Request;
+use access::Why;
 ghost use mathlib.Core.Path.{_≡_};
-ghost use mathlib.Core.Bool.{cond, true};
-ghost use Prim.Native.Nat.{_%_};
-ghost use lib.Dec.{eqb};
+ghost use mathlib.Core.Bool.{cond};
 ghost use Rattle.words.specs.Bit.{field, less, word};
-ghost use Rattle.rifsc.specs.Port.{accessed, answerOf, attrBits, takes};
+ghost use Rattle.rifsc.specs.Port.{accessed, attrBits, readAnswer, takes};
 
 // What an access to a register needs of the controller, by value.
 pub struct Seen {
@@ -70,50 +68,53 @@ fn taken(reg: Register, row: Row, v: Seen, value: u32, secure: bool) -> u32
     }
 }
 
-// The checks of an access to a register with this row, by what differs between reads and writes.
-fn checks(row: Row, offset: u32, allowed: bool, direction: bool, unlocked: bool) -> Checks
-    ensures { λ r. ⌜ r ≡ record { present = true; aligned = eqb (offset % 4) 0; inside = true; fetchless = true; known = row .known; allowed = allowed; direction = direction; unlocked = unlocked } ⌝ }
-{
-    Checks {
-        present: true,
-        aligned: offset % 4 == 0,
-        inside: true,
-        fetchless: true,
-        known: row.known,
-        allowed,
-        direction,
-        unlocked,
+impl Row {
+    // The answer to a read of a register with this row and this word. Any read is allowed, so that only the offset counts.
+    pub fn read(self, word: u32, offset: u32) -> Answer
+        ensures { λ r. ⌜ r ≡ readAnswer self word offset ⌝ }
+    {
+        if offset % 4 != 0 {
+            return Answer::Rejected(Why::Misaligned);
+        }
+        if !self.known {
+            return Answer::Rejected(Why::NoRegister);
+        }
+        Answer::Done(words::united(words::masked(word, self.named), self.fixed))
     }
-}
-
-// The answer to an access to a register with this row and this word, which may be locked whole. Any read is allowed.
-fn answer(row: Row, locked: bool, word: u32, q: Request) -> Answer
-    ensures { λ r. ⌜ r ≡ answerOf row locked word q ⌝ }
-{
-    if q.write {
-        let allowed = q.privileged & (q.secure | !row.secure);
-        return checks(row, q.offset, allowed, row.writable, !locked).answer(0);
-    }
-    let read = words::united(words::masked(word, row.named), row.fixed);
-    checks(row, q.offset, true, true, true).answer(read)
 }
 
 impl Seen {
+    // All as it was, with an answer.
+    fn left(self, answer: Answer) -> Accessed
+        ensures { λ r. ⌜ r ≡ record { next = self; answer = answer } ⌝ }
+    {
+        Accessed { next: self, answer }
+    }
+
     // An access to a register with this row. A write that is done leaves another word.
     pub fn access(mut self, reg: Register, row: Row, q: Request) -> Accessed
         ensures { λ r. ⌜ r ≡ accessed reg row self q ⌝ }
     {
-        let answer = answer(row, self.locked, self.word, q);
-        if let Answer::Done(_) = answer {
-            if q.write {
-                let word = words::merge(
-                    self.word,
-                    q.value,
-                    taken(reg, row, self, q.value, q.secure),
-                );
-                self.word = word;
-            }
+        if !q.write {
+            return self.left(row.read(self.word, q.offset));
         }
-        Accessed { next: self, answer }
+        if q.offset % 4 != 0 {
+            return self.left(Answer::Rejected(Why::Misaligned));
+        }
+        if !row.known {
+            return self.left(Answer::Rejected(Why::NoRegister));
+        }
+        if !(q.privileged & (q.secure | !row.secure)) {
+            return self.left(Answer::Refused(0));
+        }
+        if !row.writable {
+            return self.left(Answer::Rejected(Why::NoRegister));
+        }
+        if self.locked {
+            return self.left(Answer::Rejected(Why::Locked));
+        }
+        let taken = taken(reg, row, self, q.value, q.secure);
+        self.word = words::merge(self.word, q.value, taken);
+        self.left(Answer::Done(0))
     }
 }
