@@ -2,7 +2,7 @@
 use mathlib.Core.Bool.{Bool, true, false, _&&_, cond}
 use mathlib.Core.List.{List, [], _∷_}
 use mathlib.Core.Path.{_≡_, refl, sym, ap, _∙_}
-use Prim.Native.Nat.{ℕ}
+use Prim.Native.Nat.{ℕ, _%_}
 use native.Mathlib.Omega.{arith}
 use lib.ListN.{length}
 use lib.Seq.{set-getD}
@@ -10,9 +10,12 @@ use borrow.Author.Tests.{eq-eqb, ne-eqb}
 use types.Run.{OneOf, miss}
 use denote.Enum.Declared.{tagOf}
 use Rattle.access.proofs.answer.Answer.{the-type}
+use Rattle.words.specs.Bit.{withBit}
 use Rattle.access.specs.Answer.{left}
 use Rattle.access.specs.Bus.{heard}
+use Rattle.access.specs.Checks.{answeredWith, reachedWith}
 use Rattle.access.specs.declared.answer.Why.{Why}
+use Rattle.access.specs.declared.answer.Why.the-variants.{Misaligned, NoRegister, NoSuch}
 use Rattle.access.specs.declared.answer.Answer.{Answer}
 use Rattle.access.specs.declared.answer.Answer.the-variants.{Done, Refused, Rejected}
 use Rattle.access.specs.declared.kind.Kind.{Kind}
@@ -23,7 +26,7 @@ use Rattle.regions.specs.declared.rules.Verdict.{Verdict}
 use Rattle.risaf.specs.Contents.{iasrAt, regionsWords, guardWords, withWord}
 use Rattle.risaf.specs.Guards.{shapeOf}
 use Rattle.risaf.specs.Memory.{memoryAnswer, memoryChecked, faulted, memoryStepped}
-use Rattle.risaf.specs.Port.{portIn, accessed, stepped}
+use Rattle.risaf.specs.Port.{portIn, answerOf, checksOf, readAnswer, accessed, stepped}
 use Rattle.risaf.specs.Registers.{registerAt}
 use Rattle.risaf.specs.Rows.{rowOf}
 use Rattle.risaf.specs.declared.contents.Guard.{Guard}
@@ -33,6 +36,7 @@ use Rattle.risaf.specs.declared.port.Accessed.{Accessed}
 use Rattle.risaf.specs.declared.port.Port.{Port}
 use Rattle.risaf.specs.declared.rows.Row.{Row}
 use Rattle.risaf.proofs.MemoryAnswer.{ruled, onward, answer-onward, checked-unrefused, answer-in}
+use Rattle.risaf.proofs.PortLaws.{read-is}
 use Rattle.risaf.proofs.Shapes.{regions-most}
 use Rattle.device.specs.State.{State, guardAt, guardOf, withGuards, withGuardAt, withGuard, flagged}
 use Rattle.device.specs.Step.{Outcome, settled, registerStep, memoryStep}
@@ -74,6 +78,62 @@ module _ (s : State) (n : GuardNumber) (q : Request) {shape : Shape} {row : Row}
 
   pub register-rejected : {w : Why} → r .answer ≡ Rejected w → s ≡ registerStep (Risaf n) q s .next
   register-rejected d = rw register-is (rw d refl)
+
+-- where there is no register
+module _ (s : State) (n : GuardNumber) (q : Request) {shape : Shape} {row : Row} (es : shape ≡ shapeOf (n .0))
+    (er : row ≡ rowOf (registerAt (shape .regions) (q .offset))) where
+  abbrev Leaves : Why → Type 0
+  Leaves w = (Rejected w ≡ registerStep (Risaf n) q s .answer) × (s ≡ registerStep (Risaf n) q s .next)
+
+  none : {w : Why} → answerOf shape row (portIn (guardWords (guardAt s (shape .place))) row) q ≡ Rejected w → Leaves w
+  unfolding accessed
+  none d = (sym d ∙ register-answer s n q es er refl refl, register-rejected s n q es er refl refl d)
+
+  pub register-no-guard : shape .there ≡ false → Leaves NoSuch
+  unfolding answerOf checksOf answeredWith
+  register-no-guard h = none (rw h refl)
+
+  pub register-misaligned : shape .there ≡ true → (q .offset % 4 ≡ 0 → ⊥) → Leaves Misaligned
+  unfolding answerOf checksOf answeredWith
+  register-misaligned h m = none (rw (h, ne-eqb (q .offset % 4) 0 m) refl)
+
+  pub register-unknown : shape .there ≡ true → q .offset % 4 ≡ 0 → row .known ≡ false → Leaves NoRegister
+  unfolding answerOf checksOf answeredWith reachedWith
+  register-unknown h m k = none (rw (h, eq-eqb (q .offset % 4) 0 m, k) refl)
+
+-- a read
+module _ (s : State) (n : GuardNumber) (q : Request) (w : q .write ≡ false) {shape : Shape} {a : Answer} (es : shape ≡ shapeOf (n .0))
+    (ea : a ≡ readAnswer shape (guardWords (guardAt s (shape .place))) q) where
+  abbrev row-read : Row
+  row-read = rowOf (registerAt (shape .regions) (q .offset))
+
+  abbrev read : Guard
+  read = guardAt s (shape .place)
+
+  reads : answerOf shape row-read (portIn (guardWords read) row-read) q ≡ a
+  reads = read-is shape (guardWords read) q w ∙ sym ea
+
+  read-answer : a ≡ registerStep (Risaf n) q s .answer
+  unfolding accessed
+  read-answer = sym reads ∙ register-answer s n q es refl refl refl
+
+  pub register-read-kept : OneOf (0 ∷ 2 ∷ []) (tagOf the-type a)
+      → (a ≡ registerStep (Risaf n) q s .answer) × (s ≡ registerStep (Risaf n) q s .next)
+  unfolding accessed
+  register-read-kept o = (read-answer, by a reads o)
+    where
+      by : (b : Answer) → answerOf shape row-read (portIn (guardWords read) row-read) q ≡ b → OneOf (0 ∷ 2 ∷ []) (tagOf the-type b)
+          → s ≡ registerStep (Risaf n) q s .next
+      by (Done x) e o = register-read s n q es refl refl refl e w
+      by (Refused x) e o = absurd (miss (0 ∷ 2 ∷ []) 1 tt o)
+      by (Rejected y) e o = register-rejected s n q es refl refl refl e
+
+  pub register-read-refused : {t : State} {x v : ℕ} → a ≡ Refused x → v ≡ withBit 32 (read .iasr) 0 true
+      → t ≡ flagged (shape .flag) (withGuardAt s (shape .place) (withWord read iasrAt v))
+      → (a ≡ registerStep (Risaf n) q s .answer) × (t ≡ registerStep (Risaf n) q s .next)
+  unfolding accessed portIn
+  register-read-refused d ev e =
+      (read-answer, register-refused s n q es refl refl refl (reads ∙ d) (rw (reads ∙ d, ← ev) e))
 
 -- ---- a memory access
 

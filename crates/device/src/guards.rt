@@ -1,5 +1,7 @@
 // The words of one guard in the state's memory, by its place among the guards.
 use crate::layout::GUARDS;
+use access::Answer;
+use access::Request;
 use risaf::Faults;
 use risaf::GUARD_WORDS;
 use risaf::IADDR;
@@ -7,13 +9,14 @@ use risaf::IAESR;
 use risaf::IASR;
 use risaf::Port;
 use risaf::Row;
+use risaf::Shape;
 ghost use mathlib.Core.Path.{_≡_};
 ghost use Prim.Native.Nat.{_+_, _*_, _≤_, _<_};
 ghost use lib.ListN.{length};
 ghost use Rattle.risaf.specs.Contents.{guardSize, guardWords, withWord};
 ghost use Rattle.risaf.specs.Guards.{guardCount};
 ghost use Rattle.risaf.specs.Memory.{faultsOf, withFaults};
-ghost use Rattle.risaf.specs.Port.{portIn};
+ghost use Rattle.risaf.specs.Port.{portIn, readAnswer};
 ghost use Rattle.device.specs.Layout.{guardsAt, stateOf, stateWords};
 ghost use Rattle.device.specs.State.{guardAt, withGuardAt};
 
@@ -33,6 +36,16 @@ pub(crate) fn load_port(state: &[u32], place: usize, row: Row) -> Port
     let start = guard_start(place);
     let end = start + GUARD_WORDS;
     Port::at(&state[start..end], row)
+}
+
+// The answer to a read of a register.
+pub(crate) fn read_register(state: &[u32], shape: Shape, q: Request) -> Answer
+    requires { ⌜ (length (now state) ≡ stateWords) × (shape .place < guardCount) ⌝ }
+    ensures { λ r. ⌜ r ≡ readAnswer shape (guardWords (guardAt (stateOf (now (state .entry))) (shape .place))) q ⌝ }
+{
+    let start = guard_start(shape.place);
+    let end = start + GUARD_WORDS;
+    risaf::read(&state[start..end], shape, q)
 }
 
 // Stores the guard's word i.

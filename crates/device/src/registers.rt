@@ -4,13 +4,16 @@ use crate::controller::stored;
 use crate::flags::load_word;
 use crate::flags::raise;
 use crate::flags::rewrite;
+use crate::guards::load_faults;
 use crate::guards::load_port;
+use crate::guards::read_register;
 use crate::guards::store_word;
 use access::Answer;
 use access::Flag;
 use access::Request;
 use access::Why;
 use iac::Seen;
+use risaf::CAEF;
 use risaf::GuardNumber;
 use risaf::IASR;
 ghost use mathlib.Core.Bool.{false};
@@ -102,23 +105,53 @@ pub(crate) fn access_iac(state: &mut [u32], q: Request) -> Answer
     answer
 }
 
-// A register access to a guard: what it needs of the guard is taken by value, and one word of it is stored.
+// A read of a guard's registers: refused, it sets CAEF and raises the guard's flag.
+fn read_guard(state: &mut [u32], guard: GuardNumber, q: Request) -> Answer
+    requires { ⌜ (length (now state) ≡ stateWords) × (q .write ≡ false) ⌝ }
+    ensures answer { λ r. ⌜ r ≡ registerStep (Risaf guard) q (stateOf (now (state .entry))) .answer ⌝ }
+    ensures next { λ _. ⌜ stateOf (now (state .exit)) ≡ registerStep (Risaf guard) q (stateOf (now (state .entry))) .next ⌝ }
+{
+    let shape = guard.shape();
+    let answer = read_register(state, shape, q);
+    if let Answer::Refused(_) = answer {
+        let faults = load_faults(state, shape.place);
+        store_word(
+            state,
+            shape.place,
+            IASR,
+            words::with_bit(faults.iasr, CAEF, true),
+        );
+        raise(state, shape.flag);
+    }
+    answer
+}
+
+// A register access to a guard: what it needs of the guard is taken by value, and one word of it is stored. Where there is no register
+// nothing is needed.
 pub(crate) fn access_guard(state: &mut [u32], guard: GuardNumber, q: Request) -> Answer
     requires { ⌜ length (now state) ≡ stateWords ⌝ }
     ensures answer { λ r. ⌜ r ≡ registerStep (Risaf guard) q (stateOf (now (state .entry))) .answer ⌝ }
     ensures next { λ _. ⌜ stateOf (now (state .exit)) ≡ registerStep (Risaf guard) q (stateOf (now (state .entry))) .next ⌝ }
 {
+    if !q.write {
+        return read_guard(state, guard, q);
+    }
     let shape = guard.shape();
+    if !shape.there {
+        return Answer::Rejected(Why::NoSuch);
+    }
+    if q.offset % 4 != 0 {
+        return Answer::Rejected(Why::Misaligned);
+    }
     let row = risaf::row_at(shape.regions, q.offset);
+    if !row.known {
+        return Answer::Rejected(Why::NoRegister);
+    }
     let accessed = load_port(state, shape.place, row).access(shape, row, q);
     let answer = accessed.answer;
     let next = accessed.next;
     match answer {
-        Answer::Done(_) => {
-            if q.write {
-                store_word(state, shape.place, row.place, next.word);
-            }
-        }
+        Answer::Done(_) => store_word(state, shape.place, row.place, next.word),
         Answer::Refused(_) => {
             store_word(state, shape.place, IASR, next.iasr);
             raise(state, shape.flag);

@@ -1,14 +1,25 @@
--- The words that a write leaves, as the code makes them.
+-- The words that a write leaves, as the code makes them, and the answer to a read.
 use mathlib.Core.Bool.{Bool, true, false, not, _&&_, _||_, cond, and-true, and-false}
-use mathlib.Core.Path.{_≡_, sym, ap, _∙_}
-use Prim.Native.Nat.{ℕ, _^_, _<_}
+use mathlib.Core.List.{List}
+use mathlib.Core.Path.{_≡_, refl, sym, ap, _∙_}
+use Prim.Native.Nat.{ℕ, _^_, _%_, _<_}
+use borrow.Author.Tests.{eq-eqb}
 use lib.Dec.{eqb}
+use lib.ListN.{getD}
 use Rattle.words.specs.Bit.{bit, word, merged, withBit}
 use Rattle.words.proofs.Laws.{bit-word, bit-withBit, withBit-lt, word-ext}
 use Rattle.words.proofs.Masks.{merged-by}
 use Rattle.regions.specs.Words.{secBit}
-use Rattle.risaf.specs.Port.{bitIf, subcfgrWritten}
+use Rattle.access.specs.Checks.{answeredWith, reachedWith}
+use Rattle.access.specs.declared.answer.Answer.{Answer}
+use Rattle.access.specs.declared.request.Request.{Request}
+use Rattle.risaf.specs.Port.{allowedOf, answerOf, bitIf, checksOf, portIn, readAnswer, readReached, subcfgrWritten}
+use Rattle.risaf.specs.Registers.{registerAt}
+use Rattle.risaf.specs.Rows.{rowOf}
+use Rattle.risaf.specs.declared.guards.Shape.{Shape}
 use Rattle.risaf.specs.declared.port.Port.{Port}
+use Rattle.risaf.specs.declared.registers.Register.{Register}
+use Rattle.risaf.specs.declared.rows.Row.{Row}
 
 -- ---- bits, one of them only where it may be
 
@@ -36,3 +47,19 @@ pub cfgr-is : (named : ℕ) (p : Port) (value : ℕ) (secure : Bool)
     ≡ subcfgrWritten named p value secure
 unfolding subcfgrWritten
 cfgr-is named p value secure = cfgr-by 32 named (p .word) value 1 secBit (p .glock) secure
+
+-- ---- a read
+
+-- of a register that an offset is, with its row
+pub reading : (shape : Shape) (w : List ℕ) (q : Request) {reg : Register} {row : Row} {a : Answer} → shape .there ≡ true → q .offset % 4 ≡ 0
+    → reg ≡ registerAt (shape .regions) (q .offset) → row ≡ rowOf reg → a ≡ readReached row (getD w (row .place) 0) q
+    → a ≡ readAnswer shape w q
+unfolding readAnswer
+reading shape w q h l eg er ea = rw (h, eq-eqb (q .offset % 4) 0 l) (rw (ea, er, eg) refl)
+
+-- is what an access gives that is no write
+pub read-is : (shape : Shape) (w : List ℕ) (q : Request) → q .write ≡ false
+    → answerOf shape (rowOf (registerAt (shape .regions) (q .offset))) (portIn w (rowOf (registerAt (shape .regions) (q .offset)))) q
+    ≡ readAnswer shape w q
+unfolding answerOf checksOf allowedOf answeredWith reachedWith portIn readAnswer readReached
+read-is shape w q h = rw h refl

@@ -27,11 +27,9 @@ outside a b n out = go (decLt n a)
 
 -- ---- the block of a base region
 
-pub block-is : (x o : ℕ) → x < mostRegions → 0x040 + 0x40 * x ≤ o → o < 0x080 + 0x40 * x → x ≡ regionAt o
+pub in-block : (o : ℕ) → 0x040 ≤ o → o ≤ 0x2ff → (o - 0x040) / 0x40 ≡ regionAt o
 unfolding regionAt
-block-is x o h l m =
-    let e : x ≡ (o - 0x040) / 0x40 = omega arith in
-    simp (inside 0x040 0x2ff o (omega arith) (omega arith)) e
+in-block o l m = simp (inside 0x040 0x2ff o l m)
 
 pub no-block : (o : ℕ) → (0x040 ≤ o → 0x2ff < o) → mostRegions ≡ regionAt o
 unfolding regionAt

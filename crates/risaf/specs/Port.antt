@@ -6,10 +6,12 @@ use lib.Dec.{eqb}
 use lib.ListN.{getD}
 use Rattle.words.specs.Bit.{bit, word, field, masked, less, merged, united, withBit}
 use Rattle.access.specs.Answer.{left}
-use Rattle.access.specs.Checks.{answered}
+use Rattle.access.specs.Checks.{answered, unless}
 use Rattle.access.specs.Kind.{equals}
 use Rattle.access.specs.Request.{gives}
 use Rattle.access.specs.declared.answer.Answer.{Answer}
+use Rattle.access.specs.declared.answer.Answer.the-variants.{Done, Refused, Rejected}
+use Rattle.access.specs.declared.answer.Why.the-variants.{Misaligned, NoRegister, NoSuch}
 use Rattle.access.specs.declared.bus.Bus.{Bus}
 use Rattle.access.specs.declared.bus.Bus.the-variants.{Axi, Ahb}
 use Rattle.access.specs.declared.checks.Checks.{Checks}
@@ -119,6 +121,21 @@ checksOf shape row p q =
 
 unfoldable pub answerOf : Shape → Row → Port → Request → Answer
 answerOf shape row p q = answered (checksOf shape row p q) (gives q (readOf row (p .word)))
+
+-- ---- the answer to a read, among a guard's words: what code goes by
+
+-- of the register with this row, at an offset that is a multiple of 4
+unfoldable pub readReached : Row → ℕ → Request → Answer
+readReached row old q =
+    unless (row .known) (Rejected NoRegister)
+    (unless (not (row .guarded) || q .secure && q .privileged) (Refused 0)
+    (unless (row .readable) (Rejected NoRegister) (Done (readOf row old))))
+
+unfoldable pub readAnswer : Shape → List ℕ → Request → Answer
+readAnswer shape w q =
+    let row = rowOf (registerAt (shape .regions) (q .offset)) in
+    unless (shape .there) (Rejected NoSuch)
+    (unless (eqb (q .offset % 4) 0) (Rejected Misaligned) (readReached row (getD w (row .place) 0) q))
 
 -- ---- what an access leaves
 

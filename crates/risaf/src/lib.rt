@@ -19,6 +19,8 @@ pub use guards::GuardNumber;
 pub use guards::Shape;
 pub use memory::Faults;
 pub use memory::memory_checked;
+pub use port::CAEF;
 pub use port::Port;
+pub use port::read;
 pub use rows::Row;
 pub use rows::row_at;

@@ -2,6 +2,8 @@ use crate::contents::CR;
 use crate::contents::IASR;
 use crate::guards::Shape;
 use crate::guards::low_bits;
+use crate::registers::Register;
+use crate::registers::register_at;
 use crate::rows::Form;
 use crate::rows::Lock;
 use crate::rows::Row;
@@ -10,6 +12,7 @@ use access::Bus;
 use access::Checks;
 use access::Cid;
 use access::Request;
+use access::Why;
 use regions::places::COMPARTMENTS;
 use regions::places::SEC;
 ghost use mathlib.Core.Bool.{_&&_, cond, true};
@@ -26,6 +29,8 @@ ghost use Rattle.risaf.specs.Port.{
   lockedOf,
   portCid,
   portIn,
+  readAnswer,
+  readReached,
   subcfgrWritten,
   wordWritten,
 };
@@ -56,7 +61,7 @@ const DCCID: u32 = 4;
 
 const RLOCK: u32 = 1;
 
-const CAEF: u32 = 0;
+pub const CAEF: u32 = 0;
 
 // The word at a place; 0 past the end.
 fn word_in(w: &[u32], at: usize) -> u32
@@ -177,6 +182,44 @@ fn word_written(granule: u32, row: Row, p: Port, value: u32, secure: bool) -> u3
         Form::GranuleStart => words::without(value, low_bits(granule)),
         Form::GranuleEnd => words::united(value, low_bits(granule)),
         Form::SubregionCfgr => sub_cfgr_written(row.named, p, value, secure),
+    }
+}
+
+impl Row {
+    // The answer to a read of the register with this row among a guard's words, at an offset that is a multiple of 4.
+    fn read(self, w: &[u32], q: Request) -> Answer
+        ensures { λ r. ⌜ r ≡ readReached self (getD (now (w .entry)) (self .place) 0) q ⌝ }
+    {
+        if !self.known {
+            return Answer::Rejected(Why::NoRegister);
+        }
+        if !(!self.guarded | (q.secure & q.privileged)) {
+            return Answer::Refused(0);
+        }
+        if !self.readable {
+            return Answer::Rejected(Why::NoRegister);
+        }
+        Answer::Done(words::masked(word_in(w, self.place), self.named))
+    }
+}
+
+// The answer to a read, among the words of a guard of this shape. Each kind of register goes by rows of its own, which are a part of
+// the table.
+pub fn read(w: &[u32], shape: Shape, q: Request) -> Answer
+    ensures { λ r. ⌜ r ≡ readAnswer shape (now (w .entry)) q ⌝ }
+{
+    if !shape.there {
+        return Answer::Rejected(Why::NoSuch);
+    }
+    if q.offset % 4 != 0 {
+        return Answer::Rejected(Why::Misaligned);
+    }
+    let reg = register_at(shape.regions, q.offset);
+    match reg {
+        Register::OfHead(head) => head.row().read(w, q),
+        Register::OfBase(x, field) => field.row(x).read(w, q),
+        Register::OfSub(x, s, field) => field.row(x, s).read(w, q),
+        Register::Unknown => Answer::Rejected(Why::NoRegister),
     }
 }
 

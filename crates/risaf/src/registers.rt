@@ -43,17 +43,7 @@ fn region_at(offset: u32) -> usize
     ensures { λ r. ⌜ r ≡ regionAt offset ⌝ }
 {
     match offset {
-        0x040..=0x07f => 0,
-        0x080..=0x0bf => 1,
-        0x0c0..=0x0ff => 2,
-        0x100..=0x13f => 3,
-        0x140..=0x17f => 4,
-        0x180..=0x1bf => 5,
-        0x1c0..=0x1ff => 6,
-        0x200..=0x23f => 7,
-        0x240..=0x27f => 8,
-        0x280..=0x2bf => 9,
-        0x2c0..=0x2ff => 10,
+        0x040..=0x2ff => ((offset - 0x040) / BLOCK) as usize,
         _ => MOST_REGIONS,
     }
 }

@@ -143,7 +143,7 @@ fn sub_row(
 
 impl Head {
     // Columns: readable, writable, guarded, lock, form, named bits, place.
-    fn row(self) -> Row
+    pub(crate) fn row(self) -> Row
         ensures { λ r. ⌜ r ≡ ofHead self ⌝ }
     {
         match self {
@@ -166,7 +166,7 @@ impl Head {
 
 impl BaseField {
     // Columns: form, named bits, which of the base region's words.
-    fn row(self, x: usize) -> Row
+    pub(crate) fn row(self, x: usize) -> Row
         requires { ⌜ x < mostRegions ⌝ }
         ensures { λ r. ⌜ r ≡ ofBase x self ⌝ }
     {
@@ -181,7 +181,7 @@ impl BaseField {
 
 impl SubField {
     // Columns: delegable, lock, form, named bits, which of the subregion's words.
-    fn row(self, x: usize, s: usize) -> Row
+    pub(crate) fn row(self, x: usize, s: usize) -> Row
         requires { ⌜ (x < mostRegions) × (s < 2) ⌝ }
         ensures { λ r. ⌜ r ≡ ofSub x s self ⌝ }
     {
