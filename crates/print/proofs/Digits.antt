@@ -19,7 +19,11 @@ unfolding digitsOf
 digits-length base zero n = refl
 digits-length base (suc k) n = simp (length-append, digits-length base k (n / base)) (omega arith)
 
--- the code's digit, which takes no branch
+-- the code's decimal digit
+pub decimal-is : (n : ℕ) → 48 + n % 10 ≡ character (n % 10)
+decimal-is n = rw (lt-ltb (n % 10) 10 (omega arith))
+
+-- the code's hexadecimal digit, which takes no branch
 pub character-is : (d : ℕ) → d < 16 → 48 + d + 39 * ((d + 6) / 16) ≡ character d
 character-is d h = by (decLt d 10)
   where

@@ -4,4 +4,6 @@
 --     Distinct    different rows, and different answers, have different lines: span-same, answer-same, answers-same
 pub mod Digits
 pub mod Distinct
+pub mod HexDigits
+pub mod Lanes
 pub mod Writing

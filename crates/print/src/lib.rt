@@ -1,4 +1,5 @@
 // Answers and maps as text.
+mod hex;
 mod print;
 
 pub use print::print_answer;

@@ -1,3 +1,4 @@
+use crate::hex::hex_digits;
 use risaf::GuardNumber;
 ghost use mathlib.Core.List.{[], _∷_, _++_};
 ghost use mathlib.Core.Path.{_≡_};
@@ -6,13 +7,11 @@ ghost use lib.ListN.{length};
 ghost use Rattle.print.specs.Print.{
   answerLine,
   badLine,
-  character,
-  decimalText,
   diffLine,
   digitsOf,
   endLine,
   guardLine,
-  hexPair,
+  hexText,
   labelLine,
   spanLine,
   widthOf,
@@ -33,40 +32,39 @@ fn put(out: &mut [u8], at: usize, bytes: &[u8]) -> usize
     at + i
 }
 
-// How far a stands behind the character that follows 9.
-const LETTERS: u64 = 39;
-
-// The character of a digit, 0 to 9 and a to f. No branch: with six added, a digit from ten on is sixteen or more.
-fn character(d: u64) -> u8
-    requires { ⌜ d < 16 ⌝ }
-    ensures { λ r. ⌜ r ≡ character d ⌝ }
-{
-    (b'0' as u64 + d + LETTERS * ((d + 6) / 16)) as u8
-}
-
-// Writes the last `count` digits of n in the base, and the byte that ends them, from `at` on. The place after them.
-fn put_digits(out: &mut [u8], at: usize, base: u64, n: u64, count: usize, end: u8) -> usize
-    requires { ⌜ (at + count < length (now out)) × (0 < base) × (base ≤ 16) ⌝ }
-    ensures { λ r. ⌜ Wrote (now (out .entry)) at (digitsOf base count n ++ (end ∷ [])) (now (out .exit)) r ⌝ }
+// Writes the last `count` decimal digits of n, and the byte that ends them, from `at` on. The place after them.
+fn put_digits(out: &mut [u8], at: usize, n: u64, count: usize, end: u8) -> usize
+    requires { ⌜ at + count < length (now out) ⌝ }
+    ensures { λ r. ⌜ Wrote (now (out .entry)) at (digitsOf 10 count n ++ (end ∷ [])) (now (out .exit)) r ⌝ }
 {
     let mut m = n;
     let mut k = count;
     while 0 < k {
         k -= 1;
-        out[at + k] = character(m % base);
-        m = m / base;
+        out[at + k] = b'0' + (m % 10) as u8;
+        m = m / 10;
     }
     out[at + count] = end;
     at + count + 1
 }
 
-// Writes the last `count` hexadecimal digits of x and those of y, with a tab behind each, from `at` on. The place after them.
-fn put_pair(out: &mut [u8], at: usize, x: u64, y: u64, count: usize) -> usize
-    requires { ⌜ at + (count + 1) + (count + 1) ≤ length (now out) ⌝ }
-    ensures { λ r. ⌜ Wrote (now (out .entry)) at (hexPair count x y) (now (out .exit)) r ⌝ }
+// Writes the last eight hexadecimal digits of n, and the byte that ends them, from `at` on. The place after them.
+fn put_hex(out: &mut [u8], at: usize, n: u64, end: u8) -> usize
+    requires { ⌜ at + 9 ≤ length (now out) ⌝ }
+    ensures { λ r. ⌜ Wrote (now (out .entry)) at (hexText 8 n ++ (end ∷ [])) (now (out .exit)) r ⌝ }
 {
-    let a = put_digits(out, at, 16, x, count, b'\t');
-    put_digits(out, a, 16, y, count, b'\t')
+    let a = put(out, at, &hex_digits(n));
+    out[a] = end;
+    a + 1
+}
+
+// The same with sixteen digits.
+fn put_rights(out: &mut [u8], at: usize, rights: u64, end: u8) -> usize
+    requires { ⌜ at + 17 ≤ length (now out) ⌝ }
+    ensures { λ r. ⌜ Wrote (now (out .entry)) at (hexText 16 rights ++ (end ∷ [])) (now (out .exit)) r ⌝ }
+{
+    let a = put(out, at, &hex_digits(rights / 0x1_0000_0000));
+    put_hex(out, a, rights, end)
 }
 
 // How many decimal digits n has.
@@ -95,7 +93,7 @@ fn print_labelled(out: &mut [u8], at: usize, label: &[u8], n: u64) -> usize
         return at;
     }
     let a = put(out, at, label);
-    put_digits(out, a, 10, n, count, b'\n')
+    put_digits(out, a, n, count, b'\n')
 }
 
 // Each function below writes a line from `at` on, with its line feed, and gives the place after it. Where there is no room,
@@ -114,8 +112,8 @@ pub fn print_answer(out: &mut [u8], at: usize, number: u64, value: u32) -> usize
         return at;
     }
     let a = put(out, at, b"ans\t");
-    let b = put_digits(out, a, 10, number, count, b'\t');
-    put_digits(out, b, 16, value as u64, 8, b'\n')
+    let b = put_digits(out, a, number, count, b'\t');
+    put_hex(out, b, value as u64, b'\n')
 }
 
 // `span`, start, end, rights. Of start and end the low 32 bits are printed.
@@ -130,9 +128,9 @@ pub fn print_span(out: &mut [u8], at: usize, start: u64, end: u64, rights: u64) 
         return at;
     }
     let a = put(out, at, b"span\t");
-    let b = put_digits(out, a, 16, start, 8, b'\t');
-    let c = put_digits(out, b, 16, end, 8, b'\t');
-    put_digits(out, c, 16, rights, 16, b'\n')
+    let b = put_hex(out, a, start, b'\t');
+    let c = put_hex(out, b, end, b'\t');
+    put_rights(out, c, rights, b'\n')
 }
 
 // `diff`, start, end, old, new, the count of bits that differ. Of start and end the low 32 bits are printed.
@@ -156,9 +154,11 @@ pub fn print_diff(
         return at;
     }
     let a = put(out, at, b"diff\t");
-    let b = put_pair(out, a, start, end, 8);
-    let c = put_pair(out, b, old, new, 16);
-    put_digits(out, c, 10, count, digits, b'\n')
+    let b = put_hex(out, a, start, b'\t');
+    let c = put_hex(out, b, end, b'\t');
+    let d = put_rights(out, c, old, b'\t');
+    let e = put_rights(out, d, new, b'\t');
+    put_digits(out, e, count, digits, b'\n')
 }
 
 // `guard`, n.
