@@ -5,6 +5,7 @@ use Prim.Native.Nat.{ℕ, zero, suc, _+_, _-_, _*_, _/_, _%_, _^_, _≤_, _<_}
 use native.Mathlib.Omega.{arith}
 use lib.ListN.{length}
 use lib.Bits.{bitAnd, and-high, and-le-l, and-le-r, and-mask}
+use Rattle.print.specs.Bytes.{bytes}
 use Rattle.print.specs.Print.{character, digitsOf}
 use Rattle.print.proofs.Digits.{character-is}
 use Rattle.print.proofs.Lanes.{lanes, lanes-same, and-lanes}
@@ -205,3 +206,11 @@ unfolding digitsOf
 sixteen-digits n =
     let e : n / 16 / 16 / 16 / 16 / 16 / 16 / 16 / 16 ≡ n / 0x1_0000_0000 = omega arith in
     rw e
+
+-- a number below ten is its decimal digit behind seven zeros
+pub single-digit : (n : ℕ) → n < 10 → digitsOf 16 8 n ≡ bytes "0000000" ++ digitsOf 10 1 n
+unfolding digitsOf
+single-digit n h =
+    let z : n / 16 ≡ 0 = omega arith in
+    let e : n % 16 ≡ n % 10 = omega arith in
+    rw (z, e)

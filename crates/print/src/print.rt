@@ -67,6 +67,18 @@ fn put_rights(out: &mut [u8], at: usize, rights: u64, end: u8) -> usize
     put_hex(out, a, rights, end)
 }
 
+// Writes an answer's value, and the line feed, from `at` on. The place after them. Most values are a single digit.
+fn put_value(out: &mut [u8], at: usize, value: u32) -> usize
+    requires { ⌜ at + 9 ≤ length (now out) ⌝ }
+    ensures { λ r. ⌜ Wrote (now (out .entry)) at (hexText 8 value ++ (10 ∷ [])) (now (out .exit)) r ⌝ }
+{
+    if value < 10 {
+        let a = put(out, at, b"0000000");
+        return put_digits(out, a, value as u64, 1, b'\n');
+    }
+    put_hex(out, at, value as u64, b'\n')
+}
+
 // How many decimal digits n has.
 fn width(n: u64) -> usize
     ensures { λ r. ⌜ (r ≡ widthOf n) × (r ≤ 20) ⌝ }
@@ -113,7 +125,7 @@ pub fn print_answer(out: &mut [u8], at: usize, number: u64, value: u32) -> usize
     }
     let a = put(out, at, b"ans\t");
     let b = put_digits(out, a, number, count, b'\t');
-    put_hex(out, b, value as u64, b'\n')
+    put_value(out, b, value)
 }
 
 // `span`, start, end, rights. Of start and end the low 32 bits are printed.
