@@ -5,11 +5,13 @@ ghost use Rattle.print.specs.Print.{hexText};
 // The lower digit of each of four bytes, 16 bits apart.
 const LOW_DIGITS: u64 = 0x000f_000f_000f_000f;
 
-// In each byte: six, which makes a digit from ten on sixteen or more; that sixteen; the character 0.
+// In each byte six, which makes a digit from ten on sixteen or more.
 const SIXES: u64 = 0x0606_0606_0606_0606;
 
+// In each byte that sixteen.
 const SIXTEENS: u64 = 0x1010_1010_1010_1010;
 
+// In each byte the character 0.
 const ZEROS: u64 = 0x3030_3030_3030_3030;
 
 // How far a stands behind the character that follows 9.

@@ -128,15 +128,19 @@ pub fn print_answer(out: &mut [u8], at: usize, number: u64, value: u32) -> usize
     put_value(out, b, value)
 }
 
-// `span`, start, end, rights. Of start and end the low 32 bits are printed.
+// The bytes of a line of a span.
+const SPAN_LENGTH: usize = 40;
+
+// `span`, start, end, rights. Of start and end the low 32 bits are printed. The room is what the place is compared with, so that a
+// loop works it out once.
 pub fn print_span(out: &mut [u8], at: usize, start: u64, end: u64, rights: u64) -> usize
     ensures next { λ r. ⌜ r ≡ placeWith (now (out .entry)) at (spanLine start end rights) ⌝ }
     ensures bytes { λ _. ⌜ now (out .exit) ≡ bytesWith (now (out .entry)) at (spanLine start end rights) ⌝ }
 {
-    if out.len() < at {
+    if out.len() < SPAN_LENGTH {
         return at;
     }
-    if out.len() - at < 40 {
+    if out.len() - SPAN_LENGTH < at {
         return at;
     }
     let a = put(out, at, b"span\t");

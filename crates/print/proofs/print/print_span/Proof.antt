@@ -11,7 +11,8 @@ use Rattle.print.proofs.print.print_span.Tie as tie
 returns : tie.Need-returns
 returns c =
     let a = c .before .before .args in
-    refused (a .out .now) (a .at) (spanLine (a .start) (a .end) (a .rights)) (omega arith)
+    refused (a .out .now) (a .at) (spanLine (a .start) (a .end) (a .rights))
+    (omega (arith, span-length (a .start) (a .end) (a .rights)))
 
 returns-2 : tie.Need-returns-2
 returns-2 c =
