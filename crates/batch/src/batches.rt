@@ -44,8 +44,20 @@ fn one(state: &mut [u32], answers: &mut [u64], i: usize, a: MemoryAccess)
     ensures { λ _. ⌜ (now (state .exit) ≡ appliedState (Memory a) (now (state .entry)))
         × (now (answers .exit) ≡ set (now (answers .entry)) i (encodedOf (appliedAnswer (Memory a) (now (state .entry))))) ⌝ }
 {
-    let answer = device::apply_memory(state, a);
-    answers[i] = answer.encoded();
+    let guard = a.guard;
+    let k = a.kind;
+    let cid = k.cid;
+    let answer = device::memory_encoded(
+        state,
+        guard,
+        a.offset,
+        a.width,
+        k.write,
+        cid,
+        k.secure,
+        k.privileged,
+    );
+    answers[i] = answer;
 }
 
 // A batch of memory accesses, one after the other: answer i is to access i. Where lent memory is of the wrong length none of them is done.

@@ -4,11 +4,9 @@ use crate::numbers::block_numbered;
 use crate::numbers::operation_numbered;
 use access::Answer;
 use access::Cid;
-use access::Kind;
 use access::Request;
 use access::Why;
 use device::MasterAccess;
-use device::MemoryAccess;
 use device::PeripheralAccess;
 use device::RegisterAccess;
 use rifsc::MasterNumber;
@@ -111,19 +109,16 @@ pub extern "C" fn rif_memory(
     ensures answer { λ r. ⌜ r ≡ encodedOf (appliedAnswer (memoryEvent guard offset width write cid secure privileged) (now (state .entry))) ⌝ }
     ensures next { λ _. ⌜ now (state .exit) ≡ appliedState (memoryEvent guard offset width write cid secure privileged) (now (state .entry)) ⌝ }
 {
-    let kind = Kind {
-        cid: Cid(cid),
-        write,
-        privileged,
-        secure,
-    };
-    let access = MemoryAccess {
-        guard: GuardNumber(guard),
+    device::memory_encoded(
+        state,
+        GuardNumber(guard),
         offset,
         width,
-        kind,
-    };
-    device::apply_memory(state, access).encoded()
+        write,
+        Cid(cid),
+        secure,
+        privileged,
+    )
 }
 
 #[no_mangle]
@@ -145,7 +140,7 @@ pub extern "C" fn rif_master(
         width,
         write,
     };
-    device::apply_master(state, access).encoded()
+    device::master_encoded(state, access)
 }
 
 // The interrupt line. Where the length is known the answer is, and needs no look to be encoded.

@@ -9,6 +9,7 @@ pub mod HeldSteps
 pub mod LockWrites
 pub mod Locks
 pub mod MasterAccesses
+pub mod MasterAnswers
 pub mod NamedBits
 pub mod NamedDecide
 pub mod NamedPlaces

@@ -7,9 +7,11 @@
 --     Reasons    meaning: why an access is refused
 --     Masters    meaning: a master's access as a memory access
 --     Applied    meaning: an event on lent memory
+--     Encoded    meaning: the memory access that a call asks for
 --     Layout     meaning: the state's memory, part by part
 --     Named      meaning: which bits of the state's memory are named
 pub mod Applied
+pub mod Encoded
 pub mod Layout
 pub mod Locks
 pub mod Masters

@@ -2,6 +2,7 @@
 pub mod applied;
 mod blocks;
 mod controller;
+pub mod encoded;
 pub mod event;
 mod flags;
 mod guards;
@@ -19,6 +20,8 @@ pub use applied::apply_peripheral;
 pub use applied::apply_register;
 pub use applied::apply_reset;
 pub use applied::interrupt_line;
+pub use encoded::master_encoded;
+pub use encoded::memory_encoded;
 pub use event::Block;
 pub use event::Event;
 pub use event::MasterAccess;
