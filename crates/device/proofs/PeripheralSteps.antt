@@ -1,36 +1,35 @@
--- A peripheral access, by how it ends.
-use mathlib.Core.List.{[], _∷_}
-use mathlib.Core.Path.{_≡_, refl, ap, _∙_}
-use Prim.Native.Nat.{ℕ}
-use types.Run.{OneOf, miss}
-use denote.Enum.Declared.{tagOf}
-use Rattle.access.proofs.answer.Answer.{the-type}
-use Rattle.access.specs.Checks.{answered}
+-- A peripheral access, by the first of its tests that fails.
+use mathlib.Core.Bool.{true, false}
+use mathlib.Core.Path.{_≡_, refl}
+use Rattle.access.specs.Checks.{answeredWith, reachedWith}
 use Rattle.access.specs.declared.answer.Answer.{Answer}
 use Rattle.access.specs.declared.answer.Answer.the-variants.{Done, Refused, Rejected}
-use Rattle.access.specs.declared.checks.Checks.{Checks}
+use Rattle.access.specs.declared.answer.Why.the-variants.{NoSuch, Fetch}
+use Rattle.rifsc.specs.Peripherals.{exists, filterOf, grants}
 use Rattle.device.specs.State.{State, flagged}
-use Rattle.device.specs.Step.{settled, peripheralChecks, peripheralStep}
+use Rattle.device.specs.Step.{fetches, peripheralStep}
 use Rattle.device.specs.declared.event.PeripheralAccess.{PeripheralAccess}
 
-module _ (x : PeripheralAccess) (s : State) {h : Checks} {a : Answer} (eh : h ≡ peripheralChecks x s) (ea : a ≡ answered h 0) where
-  is : a ≡ answered (peripheralChecks x s) 0
-  is = ea ∙ ap (λ (y : Checks). answered y 0) eh
+module _ (x : PeripheralAccess) (s : State) where
+  -- the step has this answer, and leaves this state
+  abbrev Gives : Answer → State → Type 0
+  Gives a t = (a ≡ peripheralStep x s .answer) × (t ≡ peripheralStep x s .next)
 
-  pub peripheral-answer : a ≡ peripheralStep x s .answer
-  unfolding peripheralStep
-  peripheral-answer = is
+  pub no-peripheral : exists (x .peripheral) ≡ false → Gives (Rejected NoSuch) s
+  unfolding peripheralStep answeredWith
+  no-peripheral e = rw e (refl, refl)
 
-  pub peripheral-refused : {t : State} {v : ℕ} → a ≡ Refused v → t ≡ flagged (record { 0 = x .peripheral .0 }) s
-      → t ≡ peripheralStep x s .next
-  unfolding peripheralStep
-  peripheral-refused d e = rw (← is) (rw d e)
+  module _ (there : exists (x .peripheral) ≡ true) where
+    pub peripheral-fetched : fetches (x .operation) ≡ true → Gives (Rejected Fetch) s
+    unfolding peripheralStep answeredWith
+    peripheral-fetched e = rw (there, e) (refl, refl)
 
-  pub peripheral-kept : OneOf (0 ∷ 2 ∷ []) (tagOf the-type a) → s ≡ peripheralStep x s .next
-  unfolding peripheralStep
-  peripheral-kept t = rw (← is) (by a t)
-    where
-      by : (b : Answer) → OneOf (0 ∷ 2 ∷ []) (tagOf the-type b) → s ≡ settled b (record { 0 = x .peripheral .0 }) s s .next
-      by (Done v) t = refl
-      by (Refused v) t = absurd (miss (0 ∷ 2 ∷ []) 1 tt t)
-      by (Rejected w) t = refl
+    module _ (used : fetches (x .operation) ≡ false) where
+      pub peripheral-granted : grants (filterOf (s .rifsc) (x .peripheral)) (x .secure) (x .privileged) ≡ true → Gives (Done 0) s
+      unfolding peripheralStep answeredWith reachedWith
+      peripheral-granted e = rw (there, used, e) (refl, refl)
+
+      pub peripheral-refused : grants (filterOf (s .rifsc) (x .peripheral)) (x .secure) (x .privileged) ≡ false → {t : State}
+          → t ≡ flagged (record { 0 = x .peripheral .0 }) s → Gives (Refused 0) t
+      unfolding peripheralStep answeredWith reachedWith
+      peripheral-refused e f = rw (there, used, e) (refl, f)

@@ -35,42 +35,37 @@ other-width o width two four h =
     or-no : {a b : Bool} → (a || b) ≡ true → b ≡ false → a ≡ true
     or-no {a} {b} p q = sym (or-false a) ∙ sym (ap (λ (x : Bool). a || x) q) ∙ p
 
--- of a width that there is not, the alignment is not looked at
-pub checked-aligned : (there : Bool) (shape : Shape) (o width : ℕ) (k : Kind) {t : Bool} {a : Answer}
-    → (isWidth width ≡ true → t ≡ eqb (o % width) 0)
-    → a
-    ≡ answered
-    (record {
-      present = there && isCid (k .cid) && isWidth width;
-      aligned = t;
-      inside = ltb o (shape .window);
-      fetchless = true;
-      known = true;
-      allowed = true;
-      direction = true;
-      unlocked = true;
-    })
-    0
-    → a ≡ memoryChecked there shape o width k
-unfolding memoryChecked memoryChecks answeredWith
-checked-aligned there shape o width k {t} {a} h e = e ∙ go (isWidth width) refl
-  where
-    checks : Bool → Bool → Checks
-    checks w u =
-        record {
-          present = there && isCid (k .cid) && w;
-          aligned = u;
-          inside = ltb o (shape .window);
-          fetchless = true;
-          known = true;
-          allowed = true;
-          direction = true;
-          unlocked = true;
-        }
+-- what is answered by the tests in their order: up to which each is passed
+module _ (there : Bool) (shape : Shape) (o width : ℕ) (k : Kind) where
+  abbrev checked : Answer
+  checked = memoryChecked there shape o width k
 
-    go : (w : Bool) → isWidth width ≡ w → answered (checks w t) 0 ≡ answered (checks w (eqb (o % width) 0)) 0
-    go true q = rw (h q)
-    go false q = simp and-false
+  pub no-guard : there ≡ false → Rejected NoSuch ≡ checked
+  unfolding memoryChecked memoryChecks answeredWith
+  no-guard e = rw e refl
+
+  module _ (et : there ≡ true) where
+    pub no-cid : isCid (k .cid) ≡ false → Rejected NoSuch ≡ checked
+    unfolding memoryChecked memoryChecks answeredWith
+    no-cid e = rw (et, e) refl
+
+    module _ (ec : isCid (k .cid) ≡ true) where
+      pub no-width : isWidth width ≡ false → Rejected NoSuch ≡ checked
+      unfolding memoryChecked memoryChecks answeredWith
+      no-width e = rw (et, ec, e) refl
+
+      module _ (ew : isWidth width ≡ true) where
+        pub misaligned : eqb (o % width) 0 ≡ false → Rejected Misaligned ≡ checked
+        unfolding memoryChecked memoryChecks answeredWith
+        misaligned e = rw (et, ec, ew, e) refl
+
+        pub outside : eqb (o % width) 0 ≡ true → ltb o (shape .window) ≡ false → Rejected Outside ≡ checked
+        unfolding memoryChecked memoryChecks answeredWith
+        outside ea e = rw (et, ec, ew, ea, e) refl
+
+        pub passed : eqb (o % width) 0 ≡ true → ltb o (shape .window) ≡ true → Done 0 ≡ checked
+        unfolding memoryChecked memoryChecks answeredWith reachedWith
+        passed ea e = rw (et, ec, ew, ea, e) refl
 
 -- ---- what is answered before the rules are asked, and then
 

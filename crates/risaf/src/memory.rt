@@ -1,8 +1,8 @@
 use crate::Shape;
 use access::Answer;
-use access::Checks;
 use access::DEBUGGER;
 use access::Kind;
+use access::Why;
 use regions::places::COMPARTMENTS;
 ghost use mathlib.Core.Bool.{true};
 ghost use mathlib.Core.Path.{_≡_};
@@ -28,6 +28,12 @@ const WRITE: u32 = 128;
 
 const IAESR_NAMED: u32 = 0xb7;
 
+fn is_width(width: u32) -> bool
+    ensures { λ r. ⌜ r ≡ isWidth width ⌝ }
+{
+    (width == 1) | (width == 2) | (width == 4)
+}
+
 // Whether the offset is a multiple of a width that there is. Of another width nobody asks: it is refused first.
 fn aligned(o: u32, width: u32) -> bool
     ensures { λ r. ⌜ (isWidth width ≡ true → r ≡ eqb (o % width) 0) ⌝ }
@@ -44,17 +50,23 @@ fn aligned(o: u32, width: u32) -> bool
 pub fn memory_checked(there: bool, shape: Shape, o: u32, width: u32, k: Kind) -> Answer
     ensures { λ r. ⌜ r ≡ memoryChecked there shape o width k ⌝ }
 {
-    let checks = Checks {
-        present: there & (k.cid.0 <= DEBUGGER.0) & ((width == 1) | (width == 2) | (width == 4)),
-        aligned: aligned(o, width),
-        inside: (o as u64) < shape.window,
-        fetchless: true,
-        known: true,
-        allowed: true,
-        direction: true,
-        unlocked: true,
-    };
-    checks.answer(0)
+    // Each test before the next is made: most accesses pass all.
+    if !there {
+        return Answer::Rejected(Why::NoSuch);
+    }
+    if DEBUGGER.0 < k.cid.0 {
+        return Answer::Rejected(Why::NoSuch);
+    }
+    if !is_width(width) {
+        return Answer::Rejected(Why::NoSuch);
+    }
+    if !aligned(o, width) {
+        return Answer::Rejected(Why::Misaligned);
+    }
+    if shape.window <= o as u64 {
+        return Answer::Rejected(Why::Outside);
+    }
+    Answer::Done(0)
 }
 
 impl Faults {
