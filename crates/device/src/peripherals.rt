@@ -8,7 +8,7 @@ use access::Why;
 ghost use mathlib.Core.Path.{_≡_};
 ghost use lib.ListN.{length};
 ghost use Rattle.device.specs.Layout.{stateOf, stateWords};
-ghost use Rattle.device.specs.Step.{fetches, peripheralChecks, peripheralStep};
+ghost use Rattle.device.specs.Step.{fetches, peripheralStep};
 
 fn is_fetch(operation: Operation) -> bool
     ensures { λ r. ⌜ r ≡ fetches operation ⌝ }

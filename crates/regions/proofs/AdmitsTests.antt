@@ -9,7 +9,7 @@ use lib.Bits.{bitOr}
 use lib.Dec.{eqb, lit<}
 use lib.ListN.{getD}
 use borrow.Author.Tests.{not-true, not-false}
-use Rattle.words.specs.Bit.{bit}
+use Rattle.words.specs.Bit.{bit, field}
 use Rattle.words.proofs.Laws.{bit-ones, bit-pow, bit-shr, bit-word, bit-zero}
 use Rattle.words.proofs.Ops.{bit-or}
 use Rattle.access.specs.Bus.{heard}
@@ -21,8 +21,8 @@ use Rattle.access.proofs.Folds.{any-same, all-same}
 use Rattle.access.proofs.Heard.{heard-cid}
 use Rattle.regions.specs.Words.{base, sub, cidcfgrAt, enableBit, secBit, privcBit, rdenBit, wrenBit, readBit, writeBit}
 use Rattle.regions.specs.Rules.{Tests, reasonOf, covers, everyBase, srcid, isDefault, tests0, tests1, tests2, opens, someSub, counted, covered, ruleOf, tests, decided}
-use Rattle.regions.specs.Masks.{masks, Passed, Next}
-use Rattle.regions.specs.Admits.{defaults, byDefault, byBases, bySubs, byRegions, byMasks, admitted, allAsZero, asHeard, admitsSecurity, openTo, testsOf, verdictOf}
+use Rattle.regions.specs.Masks.{masks, openings, Passed}
+use Rattle.regions.specs.Admits.{defaults, byDefault, byBases, bySubs, byRegions, byMasks, admitted, allIf, allAsZero, withDebugger, asHeard, admitsSecurity, testsOf, verdictOf}
 use Rattle.regions.specs.declared.admits.Admits.{Admits}
 use Rattle.regions.specs.declared.masks.Masks.{Masks}
 use Rattle.regions.specs.declared.rules.Verdict.{Verdict}
@@ -58,12 +58,12 @@ not-some (suc n) v p = go (any n (λ x. v x && p x)) (v n) ∙ ap (λ (b : Bool)
     go false true = refl
     go false false = refl
 
-module _ (w : List ℕ) (n o : ℕ) (k : Kind) (h : k .cid .0 ≤ 7) where
+module _ (adds : ℕ → ℕ) (w : List ℕ) (n o : ℕ) (k : Kind) (h : k .cid .0 ≤ 7) where
   abbrev c : ℕ
   c = k .cid .0
 
   abbrev m : Masks
-  m = masks w n o
+  m = masks adds w n o
 
   small : c < 8
   small = omega (arith, h)
@@ -94,21 +94,21 @@ module _ (w : List ℕ) (n o : ℕ) (k : Kind) (h : k .cid .0 ≤ 7) where
   -- ---- rule 1
 
   bases-security : (s : Bool) → cond s (bit (m .every) secBit) (not (bit (m .some) secBit)) ≡ everyBase w n o (λ x. Bool·beq s (bit (getD w (base x) 0) secBit))
-  bases-security true = every-bit w o n secBit (lit< tt) ∙ every-same _ _ (λ x. beq-true (bit (getD w (base x) 0) secBit))
+  bases-security true = every-bit adds w o n secBit (lit< tt) ∙ every-same _ _ (λ x. beq-true (bit (getD w (base x) 0) secBit))
   bases-security false =
-      ap not (some-bit w o n secBit) ∙ not-some n (λ x. covers w (base x) o) (λ x. bit (getD w (base x) 0) secBit)
+      ap not (some-bit adds w o n secBit) ∙ not-some n (λ x. covers w (base x) o) (λ x. bit (getD w (base x) 0) secBit)
       ∙ every-same _ _ (λ x. beq-false (bit (getD w (base x) 0) secBit))
 
   bases-privilege : (p : Bool) → (p || not (bit (m .some / 2 ^ 16) c)) ≡ everyBase w n o (λ x. p || not (bit (getD w (base x) 0) (privcBit c)))
   bases-privilege true = every-true n (λ x. covers w (base x) o)
   bases-privilege false =
-      ap not (bit-shr (m .some) 16 c ∙ some-bit w o n (16 + c)) ∙ not-some n (λ x. covers w (base x) o) (λ x. bit (getD w (base x) 0) (16 + c))
+      ap not (bit-shr (m .some) 16 c ∙ some-bit adds w o n (16 + c)) ∙ not-some n (λ x. covers w (base x) o) (λ x. bit (getD w (base x) 0) (16 + c))
 
   -- the enables from bit `at`
   bases-enabled : (at x : ℕ) → at + c < 32 → bit x c ≡ bit (m .enables) (at + c)
       → bit (bitOr x 0x80) c ≡ everyBase w n o (λ y. eqb c 7 || bit (getD w (base y + cidcfgrAt) 0) (at + c))
   bases-enabled at x l e =
-      bit-or x 0x80 c ∙ ap₂ _||_ (e ∙ enables-bit w o n (at + c) l) (bit-pow 7 c) ∙ go (eqb c 7)
+      bit-or x 0x80 c ∙ ap₂ _||_ (e ∙ enables-bit adds w o n (at + c) l) (bit-pow 7 c) ∙ go (eqb c 7)
     where
       go : (t : Bool)
           → (everyBase w n o (λ y. bit (getD w (base y + cidcfgrAt) 0) (at + c)) || t)
@@ -125,7 +125,7 @@ module _ (w : List ℕ) (n o : ℕ) (k : Kind) (h : k .cid .0 ≤ 7) where
       bases-enabled 0 (m .enables) (omega (arith, h)) (ap (bit (m .enables)) (sym e))
       ∙ every-same _ _ (λ x. ap (λ (i : ℕ). eqb c 7 || bit (getD w (base x + cidcfgrAt) 0) i) e)
 
-  bases-tests : testsOf (byBases m) k ≡ tests1 w n o k
+  pub bases-tests : testsOf (byBases m) k ≡ tests1 w n o k
   unfolding testsOf byBases
   bases-tests = tests-same (bases-security (k .secure)) (bases-privilege (k .privileged)) (bases-compartment (k .write))
 
@@ -135,25 +135,35 @@ module _ (w : List ℕ) (n o : ℕ) (k : Kind) (h : k .cid .0 ≤ 7) where
   subs-security true b d e = beq-true b ∙ ap (Bool·beq true) e
   subs-security false b d e = beq-false b ∙ ap (Bool·beq false) e
 
-  subs-closed : (b d : Bool) → b ≡ d → bit (cond b 0xff 0) c ≡ d
-  subs-closed true d e = bit-ones 8 c small ∙ e
-  subs-closed false d e = bit-zero c ∙ e
+  pub all-if : (b d : Bool) → b ≡ d → bit (allIf b) c ≡ d
+  all-if true d e = bit-ones 8 c small ∙ e
+  all-if false d e = bit-zero c ∙ e
 
-  subs-compartment : (d : Bool) → bit (openTo (bySubs m) d) c
-      ≡ someSub w n o (λ x s. (eqb (srcid w x s .0) c || eqb c 7) && cond d (bit (getD w (sub x s) 0) wrenBit) (bit (getD w (sub x s) 0) rdenBit))
-  unfolding bySubs
-  subs-compartment true = open-bit w o 16 wrenBit (writes-right w) n c small
-  subs-compartment false = open-bit w o 0 rdenBit (reads-right w) n c small
-
-  subs-tests : testsOf (bySubs m) k ≡ tests2 w n o k
+  -- with the compartments that may read and write, by what this one may
+  pub subs-tests : (reads writes : ℕ) → bit (cond (k .write) writes reads) c ≡ someSub w n o (opens w k) → testsOf (bySubs m reads writes) k ≡ tests2 w n o k
   unfolding testsOf bySubs
-  subs-tests =
-      tests-same (subs-security (k .secure) _ _ (secure-bit w o n))
-      (ap (λ (b : Bool). k .privileged || not b) (subs-closed _ _ (privileged-bit w o n))) (subs-compartment (k .write))
+  subs-tests reads writes e =
+      tests-same (subs-security (k .secure) _ _ (secure-bit adds w o n))
+      (ap (λ (b : Bool). k .privileged || not b) (all-if _ _ (privileged-bit adds w o n))) e
+
+-- who may read and write, for all compartments
+abbrev reads : Masks → ℕ
+reads m = withDebugger (field (m .opens) (readBit 0) 8)
+
+abbrev writes : Masks → ℕ
+writes m = withDebugger (field (m .opens) (writeBit 0) 8)
+
+all-compartment : (w : List ℕ) (n o : ℕ) (k : Kind) → k .cid .0 ≤ 7 → (d : Bool)
+    → bit (cond d (writes (masks openings w n o)) (reads (masks openings w n o))) (k .cid .0)
+    ≡ someSub w n o
+    (λ x s.
+    (eqb (srcid w x s .0) (k .cid .0) || eqb (k .cid .0) 7) && cond d (bit (getD w (sub x s) 0) wrenBit) (bit (getD w (sub x s) 0) rdenBit))
+all-compartment w n o k h true = open-bit w o 16 wrenBit (writes-right w) n (k .cid .0) (omega (arith, h))
+all-compartment w n o k h false = open-bit w o 0 rdenBit (reads-right w) n (k .cid .0) (omega (arith, h))
 
 -- ---- which rule governs
 
-neither : (a b : Bool) → (a || b) ≡ false → (a ≡ false) × (b ≡ false)
+pub neither : (a b : Bool) → (a || b) ≡ false → (a ≡ false) × (b ≡ false)
 neither true b e = absurd (true≢false e)
 neither false b e = (refl, e)
 
@@ -174,30 +184,18 @@ module _ (w : List ℕ) (o : ℕ) where
           rw q (rw e (or-true (covered w x o)))
 
   -- where no base region covers, no subregion counts
-  none-counted : (n : ℕ) → covered w n o ≡ false → counted w n o ≡ false
+  pub none-counted : (n : ℕ) → covered w n o ≡ false → counted w n o ≡ false
   none-counted zero e = refl
   none-counted (suc n) e =
       let d = neither (covered w n o) (covers w (base n) o) e in
       rw (none-counted n (d .0), d .1) refl
 
--- what the code's search finds
-module _ (bus : Bus) (w : List ℕ) (n o : ℕ) {r : ℕ} (next : Next w o 0 n r) where
-  pub none-found : r ≡ n → byDefault bus ≡ admitted bus w n o
-  unfolding admitted
-  none-found e = rw (none-covered w o n (λ y a b. next .passed y a (omega (arith, e, b)))) refl
-
-  pub one-found : (r ≡ n → ⊥) → byRegions (masks w n o) ≡ admitted bus w n o
-  unfolding admitted
-  one-found d =
-      let l : r < n = omega (arith, next .high, d) in
-      rw (some-covered w o n r l (next .found l)) refl
-
--- what its one pass over all base regions finds: one that covers has its enable in CFGR
-pub masks-found : (bus : Bus) (w : List ℕ) (n o : ℕ) → byMasks bus (masks w n o) ≡ admitted bus w n o
+-- what one pass over all base regions finds: one that covers has its enable in CFGR
+pub masks-found : (bus : Bus) (w : List ℕ) (n o : ℕ) → byMasks bus (masks openings w n o) ≡ admitted bus w n o
 unfolding byMasks admitted
 masks-found bus w n o =
-    ap (λ (c : Bool). cond c (byRegions (masks w n o)) (byDefault bus))
-    (some-bit w o n enableBit ∙ any-same n _ _ (λ x h. own (bit (getD w (base x) 0) enableBit) _))
+    ap (λ (c : Bool). cond c (byRegions (masks openings w n o)) (byDefault bus))
+    (some-bit openings w o n enableBit ∙ any-same n _ _ (λ x h. own (bit (getD w (base x) 0) enableBit) _))
   where
     own : (e i : Bool) → ((e && i) && e) ≡ (e && i)
     own true true = refl
@@ -218,16 +216,16 @@ tests-is bus w n o k h = by (covered w n o) refl (counted w n o) refl
     verdict a r t e f = ap₂ (λ (r : ℕ) (t : Tests). record { rule = r; reason = reasonOf t }) e f
 
     by : (d : Bool) → covered w n o ≡ d → (c : Bool) → counted w n o ≡ c
-        → verdictOf (cond d (cond (eqb (masks w n o .opens) 0) (byBases (masks w n o)) (bySubs (masks w n o))) (byDefault bus)) k
+        → verdictOf (cond d (cond (eqb (masks openings w n o .opens) 0) (byBases (masks openings w n o)) (bySubs (masks openings w n o) (reads (masks openings w n o)) (writes (masks openings w n o)))) (byDefault bus)) k
         ≡ record { rule = cond c 2 (cond d 1 0); reason = reasonOf (cond c (tests2 w n o k) (cond d (tests1 w n o k) (tests0 bus k))) }
     by true e true f =
-        ap (λ (b : Bool). verdictOf (cond b (byBases (masks w n o)) (bySubs (masks w n o))) k) (not-true (eqb (masks w n o .opens) 0) (counted-is w n o ∙ f))
-        ∙ verdict (bySubs (masks w n o)) 2 (tests2 w n o k) refl (subs-tests w n o k h)
+        ap (λ (b : Bool). verdictOf (cond b (byBases (masks openings w n o)) (bySubs (masks openings w n o) (reads (masks openings w n o)) (writes (masks openings w n o)))) k) (not-true (eqb (masks openings w n o .opens) 0) (counted-is w n o ∙ f))
+        ∙ verdict (bySubs (masks openings w n o) (reads (masks openings w n o)) (writes (masks openings w n o))) 2 (tests2 w n o k) refl (subs-tests openings w n o k h _ _ (all-compartment w n o k h (k .write)))
     by true e false f =
-        ap (λ (b : Bool). verdictOf (cond b (byBases (masks w n o)) (bySubs (masks w n o))) k) (not-false (eqb (masks w n o .opens) 0) (counted-is w n o ∙ f))
-        ∙ verdict (byBases (masks w n o)) 1 (tests1 w n o k) refl (bases-tests w n o k h)
+        ap (λ (b : Bool). verdictOf (cond b (byBases (masks openings w n o)) (bySubs (masks openings w n o) (reads (masks openings w n o)) (writes (masks openings w n o)))) k) (not-false (eqb (masks openings w n o .opens) 0) (counted-is w n o ∙ f))
+        ∙ verdict (byBases (masks openings w n o)) 1 (tests1 w n o k) refl (bases-tests openings w n o k h)
     by false e true f = absurd (true≢false (sym f ∙ none-counted w o n e))
-    by false e false f = verdict (byDefault bus) 0 (tests0 bus k) refl (default-tests w n o k h bus)
+    by false e false f = verdict (byDefault bus) 0 (tests0 bus k) refl (default-tests openings w n o k h bus)
 
 pub verdict-is : (bus : Bus) (w : List ℕ) (n o : ℕ) (k : Kind) → k .cid .0 ≤ 7
     → verdictOf (admitted bus w n o) (heard bus k) ≡ decided bus w n o k

@@ -1,6 +1,8 @@
 pub mod AdmitsTests
 pub mod ByteBits
 pub mod Digits
+pub mod Askings
+pub mod Enabled
 pub mod Enough
 pub mod Found
 pub mod Gathered

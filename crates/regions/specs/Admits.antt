@@ -10,9 +10,9 @@ use Rattle.access.specs.Kind.{kindOf}
 use Rattle.access.specs.declared.bus.Bus.{Bus}
 use Rattle.access.specs.declared.bus.Bus.the-variants.{Axi, Ahb}
 use Rattle.access.specs.declared.kind.Kind.{Kind}
-use Rattle.regions.specs.Words.{enableBit, secBit, privcBit, readBit, writeBit}
-use Rattle.regions.specs.Rules.{Tests, reasonOf, granted, covered}
-use Rattle.regions.specs.Masks.{masks}
+use Rattle.regions.specs.Words.{enableBit, secBit, privBit, privcBit, readBit, writeBit}
+use Rattle.regions.specs.Rules.{Tests, reasonOf, granted, covered, decided}
+use Rattle.regions.specs.Masks.{masks, openings}
 use Rattle.regions.specs.declared.admits.Admits.{Admits}
 use Rattle.regions.specs.declared.masks.Masks.{Masks}
 use Rattle.regions.specs.declared.rules.Verdict.{Verdict}
@@ -45,34 +45,45 @@ byBases m =
 unfoldable pub withDebugger : ℕ → ℕ
 withDebugger mask = cond (eqb mask 0) 0 (bitOr mask 0x80)
 
--- rule 2
-unfoldable pub bySubs : Masks → Admits
-bySubs m =
+-- all compartments, or none
+abbrev pub allIf : Bool → ℕ
+allIf b = cond b 0xff 0
+
+-- rule 2, with the compartments that may read and write
+unfoldable pub bySubs : Masks → ℕ → ℕ → Admits
+bySubs m reads writes =
     record {
       rule = 2;
       secure = bit (m .secure) secBit;
       nonsecure = not (bit (m .secure) secBit);
-      closed = cond (bit (m .privileged) 0) 0xff 0;
-      reads = withDebugger (field (m .opens) (readBit 0) 8);
-      writes = withDebugger (field (m .opens) (writeBit 0) 8);
+      closed = allIf (bit (m .privileged) privBit);
+      reads = reads;
+      writes = writes;
     }
 
 -- where some base region covers: a subregion counts where opens has a bit
 unfoldable pub byRegions : Masks → Admits
-byRegions m = cond (eqb (m .opens) 0) (byBases m) (bySubs m)
+byRegions m =
+    cond (eqb (m .opens) 0) (byBases m)
+    (bySubs m (withDebugger (field (m .opens) (readBit 0) 8)) (withDebugger (field (m .opens) (writeBit 0) 8)))
+
+-- the same for one asking, whose direction bit den of CFGR enables: for no other compartment and direction is it right in rule 2
+unfoldable pub byAsked : ℕ → Masks → Admits
+byAsked den m =
+    cond (bit (m .opens) enableBit) (bySubs m (allIf (bit (m .opens) den)) (allIf (bit (m .opens) den))) (byBases m)
 
 -- some base region covers where some CFGR has the enable
 unfoldable pub byMasks : Bus → Masks → Admits
 byMasks bus m = cond (bit (m .some) enableBit) (byRegions m) (byDefault bus)
 
 unfoldable pub admitted : Bus → List ℕ → ℕ → ℕ → Admits
-admitted bus w n o = cond (covered w n o) (byRegions (masks w n o)) (byDefault bus)
+admitted bus w n o = cond (covered w n o) (byRegions (masks openings w n o)) (byDefault bus)
 
 -- ---- as the bus hears them
 
 -- all compartments where CID 0 is one of the mask's
 abbrev pub allAsZero : ℕ → ℕ
-allAsZero mask = cond (bit mask 0) 0xff 0
+allAsZero mask = allIf (bit mask 0)
 
 -- each compartment as the one that it is heard as
 unfoldable pub asHeard : Bus → Admits → Admits
@@ -107,6 +118,14 @@ testsOf a k =
 
 unfoldable pub verdictOf : Admits → Kind → Verdict
 verdictOf a k = record { rule = a .rule; reason = reasonOf (testsOf a k) }
+
+-- a verdict in one number
+abbrev pub packed : Verdict → ℕ
+packed v = v .rule + 4 * v .reason
+
+-- that of rule 1 or 2, or 0 where rule 0 governs
+abbrev pub governed : List ℕ → ℕ → ℕ → Kind → ℕ
+governed w n o k = cond (covered w n o) (packed (decided Axi w n o k)) 0
 
 -- ---- the rights
 

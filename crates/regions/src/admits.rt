@@ -1,14 +1,15 @@
 use crate::masks::Masks;
 use crate::places::ENABLE;
+use crate::places::PRIV;
 use crate::places::PRIVC;
 use crate::places::READS;
 use crate::places::SEC;
 use crate::places::WRITES;
 use access::Bus;
-ghost use mathlib.Core.Bool.{cond};
+ghost use Prim.Native.Nat.{_<_};
 ghost use mathlib.Core.Path.{_≡_};
 ghost use Rattle.access.specs.declared.bus.Bus.the-variants.{Ahb};
-ghost use Rattle.regions.specs.Admits.{admitsSecurity, asHeard, byBases, byDefault, byMasks, byRegions, bySubs, defaults, openTo, withDebugger};
+ghost use Rattle.regions.specs.Admits.{admitsSecurity, allIf, asHeard, byAsked, byBases, byDefault, byMasks, byRegions, bySubs, defaults, openTo, withDebugger};
 
 // Who passes the tests of the rule that governs an offset, in their order: security, privilege, compartment and direction. Bit c of a
 // mask is CID c; what is above bit 7 means nothing.
@@ -27,7 +28,7 @@ const ALL: u32 = 0xff;
 
 const DEBUGGERS: u32 = 0x80;
 
-const DEFAULTS: u32 = 0x82;
+pub(crate) const DEFAULTS: u32 = 0x82;
 
 // The compartments that rule 0 admits.
 fn defaults(bus: Bus) -> u32
@@ -80,19 +81,17 @@ fn with_debugger(mask: u32) -> u32
 
 // All compartments, or none.
 fn all_if(b: bool) -> u32
-    ensures { λ r. ⌜ r ≡ cond b 255 0 ⌝ }
+    ensures { λ r. ⌜ r ≡ allIf b ⌝ }
 {
     if b { ALL } else { 0 }
 }
 
-// Rule 2.
-fn by_subs(m: Masks) -> Admits
-    ensures { λ r. ⌜ r ≡ bySubs m ⌝ }
+// Rule 2, with the compartments that may read and write.
+fn by_subs(m: Masks, reads: u32, writes: u32) -> Admits
+    ensures { λ r. ⌜ r ≡ bySubs m reads writes ⌝ }
 {
     let secure = (m.secure >> SEC) % 2 == 1;
-    let closed = all_if((m.privileged >> 0) % 2 == 1);
-    let reads = with_debugger((m.opens >> READS) % 0x100);
-    let writes = with_debugger((m.opens >> WRITES) % 0x100);
+    let closed = all_if((m.privileged >> PRIV) % 2 == 1);
     Admits {
         rule: 2,
         secure,
@@ -104,13 +103,27 @@ fn by_subs(m: Masks) -> Admits
 }
 
 // Rule 2, or else rule 1, where some base region covers.
-pub(crate) fn by_regions(m: Masks) -> Admits
+fn by_regions(m: Masks) -> Admits
     ensures { λ r. ⌜ r ≡ byRegions m ⌝ }
 {
     if m.opens == 0 {
         return by_bases(m);
     }
-    by_subs(m)
+    let reads = with_debugger((m.opens >> READS) % 0x100);
+    let writes = with_debugger((m.opens >> WRITES) % 0x100);
+    by_subs(m, reads, writes)
+}
+
+// The same for one asking, whose direction bit den of CFGR enables.
+pub(crate) fn by_asked(m: Masks, den: u32) -> Admits
+    requires { ⌜ den < 32 ⌝ }
+    ensures { λ r. ⌜ r ≡ byAsked den m ⌝ }
+{
+    if (m.opens >> ENABLE) % 2 != 1 {
+        return by_bases(m);
+    }
+    let open = all_if((m.opens >> den) % 2 == 1);
+    by_subs(m, open, open)
 }
 
 // The same, or else rule 0: every base region that covers has its enable in CFGR.

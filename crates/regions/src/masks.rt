@@ -3,6 +3,7 @@ use crate::places::CIDCFGR;
 use crate::places::COMPARTMENTS;
 use crate::places::ENABLE;
 use crate::places::END;
+use crate::places::MOST_REGIONS;
 use crate::places::PRIV;
 use crate::places::PRIVC;
 use crate::places::RDEN;
@@ -15,9 +16,11 @@ use access::Cid;
 ghost use mathlib.Core.Path.{_≡_};
 ghost use Prim.Native.Nat.{_+_, _*_, _≤_, _<_};
 ghost use lib.ListN.{length};
-ghost use Rattle.regions.specs.Words.{base, endAt, regionWords};
+ghost use mathlib.Core.Bool.{not};
+ghost use Rattle.words.specs.Bit.{field};
+ghost use Rattle.regions.specs.Words.{base, endAt, mostRegions, regionWords, srcidBit};
 ghost use Rattle.regions.specs.Rules.{covers};
-ghost use Rattle.regions.specs.Masks.{Next, Passed, baseGathered, masks, noneGathered, opening, subGathered, withBase, withSub};
+ghost use Rattle.regions.specs.Masks.{Next, Passed, baseGathered, masks, noneGathered, opening, openings, serving, someEnabled, subGathered, withBase, withSub};
 
 // What the base regions that cover say, of those that were looked at.
 pub(crate) struct Masks {
@@ -25,10 +28,11 @@ pub(crate) struct Masks {
     pub(crate) some: u32,
     pub(crate) every: u32,
     pub(crate) enables: u32,
-    // Of the subregions that count: at SEC, that the working SEC of all is 1; at bit 0, that the working PRIV of all is.
+    // Of the subregions that count: at SEC, that the working SEC of all is 1; at PRIV, that the working PRIV of all is.
     pub(crate) secure: u32,
     pub(crate) privileged: u32,
-    // The SRCIDs of those that enable reads, from bit 0; of all that count, from bit 8; of those that enable writes, from bit 16.
+    // For the rights of all, the SRCIDs of those that enable reads, from bit 0; of all that count, from bit 8; of those that enable
+    // writes, from bit 16. For one asking, bit 0 where some count, and the bit that enables its direction where one of them serves it.
     pub(crate) opens: u32,
 }
 
@@ -57,12 +61,32 @@ pub(crate) fn covers(w: &[u32], p: usize, o: u32) -> bool
     (w[p + START] <= o) & (o <= w[p + END])
 }
 
+fn srcid(cfgr: u32) -> Cid
+    ensures { λ r. ⌜ r .0 ≡ field cfgr srcidBit 3 ⌝ }
+{
+    Cid((cfgr >> SRCID) % COMPARTMENTS)
+}
+
 // The bits of `opens` that a subregion with this CFGR and SRCID has.
 fn opening(cfgr: u32, srcid: Cid) -> u32
     requires { ⌜ srcid .0 < 8 ⌝ }
     ensures { λ r. ⌜ r ≡ opening cfgr (srcid .0) ⌝ }
 {
     ((cfgr >> RDEN) % 2 + 0x100 + (cfgr >> WREN) % 2 * 0x1_0000) << srcid.0
+}
+
+// What a subregion with this CFGR adds to `opens`, for the rights of all.
+pub(crate) fn openings(cfgr: u32) -> u32
+    ensures { λ r. ⌜ r ≡ openings cfgr ⌝ }
+{
+    opening(cfgr, srcid(cfgr))
+}
+
+// The same for one asking. SRCID i serves it where who has the bit that is i above the direction's.
+fn serving(who: u32, cfgr: u32) -> u32
+    ensures { λ r. ⌜ r ≡ serving who cfgr ⌝ }
+{
+    cfgr & ((who >> srcid(cfgr).0) | 1)
 }
 
 // With the words of a base region that covers.
@@ -79,45 +103,57 @@ pub(crate) fn with_base(cfgr: u32, cidcfgr: u32, m: Masks) -> Masks
     }
 }
 
-// With CFGR of a subregion that counts, and of its base region.
-pub(crate) fn with_sub(base: u32, sub: u32, m: Masks) -> Masks
-    ensures { λ r. ⌜ r ≡ withSub base sub m ⌝ }
+// With CFGR of a subregion that counts, and of its base region; opens is what it adds there.
+pub(crate) fn with_sub(base: u32, sub: u32, opens: u32, m: Masks) -> Masks
+    ensures { λ r. ⌜ r ≡ withSub base sub opens m ⌝ }
 {
-    let srcid = Cid((sub >> SRCID) % COMPARTMENTS);
-    let opens = m.opens | opening(sub, srcid);
+    let srcid = srcid(sub);
+    let opens = m.opens | opens;
     Masks {
         some: m.some,
         every: m.every,
         enables: m.enables,
         secure: m.secure & (sub & base),
-        privileged: m.privileged & ((sub >> PRIV) & ((base >> srcid.0) >> PRIVC)),
+        privileged: m.privileged & (sub & ((base >> srcid.0) >> (PRIVC - PRIV))),
         opens,
     }
 }
 
 // With what subregion s of base region x, which covers, says.
-fn sub_gathered(w: &[u32], x: usize, s: usize, o: u32, m: Masks) -> Masks
+fn sub_gathered(w: &[u32], x: usize, s: usize, o: u32, who: u32, m: Masks) -> Masks
     requires { ⌜ (base x + regionWords ≤ length (now w)) × (s < 2) ⌝ }
-    ensures { λ r. ⌜ r ≡ subGathered (now (w .entry)) x s o m ⌝ }
+    ensures { λ r. ⌜ r ≡ subGathered (serving who) (now (w .entry)) x s o m ⌝ }
 {
     let p = REGION_WORDS * x + BASE_WORDS + SUBREGION_WORDS * s;
     if !covers(w, p, o) {
         return m;
     }
-    with_sub(w[REGION_WORDS * x], w[p], m)
+    with_sub(w[REGION_WORDS * x], w[p], serving(who, w[p]), m)
 }
 
 // With what base region x and its subregions say: nothing where it does not cover.
-fn base_gathered(w: &[u32], x: usize, o: u32, m: Masks) -> Masks
+fn base_gathered(w: &[u32], x: usize, o: u32, who: u32, m: Masks) -> Masks
     requires { ⌜ base x + regionWords ≤ length (now w) ⌝ }
-    ensures { λ r. ⌜ r ≡ baseGathered (now (w .entry)) x o m ⌝ }
+    ensures { λ r. ⌜ r ≡ baseGathered (serving who) (now (w .entry)) x o m ⌝ }
 {
     let b = REGION_WORDS * x;
     if !covers(w, b, o) {
         return m;
     }
     let based = with_base(w[b], w[b + CIDCFGR], m);
-    sub_gathered(w, x, 1, o, sub_gathered(w, x, 0, o, based))
+    sub_gathered(w, x, 1, o, who, sub_gathered(w, x, 0, o, who, based))
+}
+
+// Whether no base region is enabled, of the most that there may be. One that a guard does not have may hold anything.
+pub(crate) fn none_enabled(w: &[u32]) -> bool
+    requires { ⌜ base mostRegions ≤ length (now w) ⌝ }
+    ensures { λ r. ⌜ r ≡ not (someEnabled (now (w .entry)) mostRegions) ⌝ }
+{
+    let mut some = 0;
+    for x in 0..MOST_REGIONS {
+        some |= w[REGION_WORDS * x];
+    }
+    !((some >> ENABLE) % 2 == 1)
 }
 
 // The next base region from `from` on that covers the offset, or n.
@@ -135,14 +171,14 @@ pub(crate) fn next_covering(w: &[u32], from: usize, n: usize, o: u32) -> usize
     x
 }
 
-// What the first n base regions say: none below `from` covers.
-pub(crate) fn gathered(w: &[u32], from: usize, n: usize, o: u32) -> Masks
+// What the first n base regions say to one asking: none below `from` covers.
+pub(crate) fn gathered(w: &[u32], from: usize, n: usize, o: u32, who: u32) -> Masks
     requires { ⌜ (from ≤ n) × (base n ≤ length (now w)) × Passed (now w) o 0 from ⌝ }
-    ensures { λ r. ⌜ r ≡ masks (now (w .entry)) n o ⌝ }
+    ensures { λ r. ⌜ r ≡ masks (serving who) (now (w .entry)) n o ⌝ }
 {
     let mut m = none_gathered();
     for x in from..n {
-        m = base_gathered(w, x, o, m);
+        m = base_gathered(w, x, o, who, m);
     }
     m
 }

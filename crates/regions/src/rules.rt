@@ -1,21 +1,28 @@
 use crate::admits::Admits;
+use crate::admits::DEFAULTS;
 use crate::admits::admits_security;
-use crate::admits::by_default;
-use crate::admits::by_regions;
+use crate::admits::by_asked;
 use crate::admits::open_to;
 use crate::masks::gathered;
 use crate::masks::next_covering;
+use crate::masks::none_enabled;
 use crate::places::MOST_REGIONS;
+use crate::places::RDEN;
 use crate::places::REGION_WORDS;
+use crate::places::WREN;
 use access::Bus;
+use access::Cid;
 use access::DEBUGGER;
 use access::Kind;
 ghost use mathlib.Core.Path.{_≡_};
 ghost use Prim.Native.Nat.{_≤_};
+ghost use lib.ListN.{length};
 ghost use Rattle.access.specs.Kind.{debugger};
 ghost use Rattle.regions.specs.Lent.{decidedIn};
-ghost use Rattle.regions.specs.Rules.{reasonOf};
-ghost use Rattle.regions.specs.Admits.{testsOf, verdictOf};
+ghost use Rattle.regions.specs.Rules.{isDefault, reasonOf, tests0};
+ghost use Rattle.regions.specs.Admits.{byAsked, governed, packed, testsOf, verdictOf};
+ghost use Rattle.regions.specs.Masks.{Passed, askers, masks, serving};
+ghost use Rattle.regions.specs.Words.{base, mostRegions, wrenBit};
 
 // The rule that governs an offset (0 default, 1 base region, 2 subregion), and the first of its tests that fails: NO_REASON where the
 // access is granted.
@@ -63,6 +70,93 @@ fn judged(a: Admits, k: Kind) -> Verdict
     }
 }
 
+// Whether rule 0 admits the compartment.
+fn is_default(bus: Bus, k: Kind) -> bool
+    requires { ⌜ k .cid .0 ≤ debugger .0 ⌝ }
+    ensures { λ r. ⌜ r ≡ isDefault bus k ⌝ }
+{
+    match bus {
+        Bus::Axi => (DEFAULTS >> k.cid.0) % 2 == 1,
+        Bus::Ahb => true,
+    }
+}
+
+// The first test of rule 0 that a kind of asking fails.
+fn default_reason(bus: Bus, k: Kind) -> u32
+    requires { ⌜ k .cid .0 ≤ debugger .0 ⌝ }
+    ensures { λ r. ⌜ r ≡ reasonOf (tests0 bus k) ⌝ }
+{
+    if !k.secure {
+        return SECURITY;
+    }
+    if !k.privileged {
+        return PRIVILEGE;
+    }
+    if is_default(bus, k) {
+        return NO_REASON;
+    }
+    COMPARTMENT
+}
+
+// The SRCIDs that serve a compartment, SRCID i at bit den + i.
+fn askers(cid: Cid, den: u32) -> u32
+    requires { ⌜ (cid .0 ≤ debugger .0) × (den ≤ wrenBit) ⌝ }
+    ensures { λ r. ⌜ r ≡ askers (cid .0) den ⌝ }
+{
+    if cid.equals(DEBUGGER) {
+        return 0xff << den;
+    }
+    1 << (cid.0 + den)
+}
+
+// The verdict of rule 1 or 2, packed. None of the base regions below `first` covers. Bit den of a subregion's CFGR enables the direction.
+fn by_regions(
+    w: &[u32],
+    first: usize,
+    n: usize,
+    o: u32,
+    cid: Cid,
+    write: bool,
+    privileged: bool,
+    secure: bool,
+    den: u32,
+) -> u32
+    requires { ⌜ (first ≤ n) × (base n ≤ length (now w)) × Passed (now w) o 0 first × (cid .0 ≤ debugger .0) × (den ≤ wrenBit) ⌝ }
+    ensures { λ r. ⌜ r ≡ packed (verdictOf (byAsked den (masks (serving (askers (cid .0) den)) (now (w .entry)) n o)) (record { cid = cid; write = write; privileged = privileged; secure = secure })) ⌝ }
+{
+    let m = gathered(w, first, n, o, askers(cid, den));
+    let k = Kind {
+        cid,
+        write,
+        privileged,
+        secure,
+    };
+    let v = judged(by_asked(m, den), k);
+    v.rule + 4 * v.reason
+}
+
+// The same where some base region covers, else 0. A direction has its own call, with its own bit: the compiler then leaves it a call, in
+// which there are registers enough.
+fn governed(w: &[u32], n: usize, o: u32, k: Kind) -> u32
+    requires { ⌜ (n ≤ mostRegions) × (base n ≤ length (now w)) × (k .cid .0 ≤ debugger .0) ⌝ }
+    ensures { λ r. ⌜ r ≡ governed (now (w .entry)) n o k ⌝ }
+{
+    if REGION_WORDS * MOST_REGIONS <= w.len() {
+        if none_enabled(w) {
+            return 0;
+        }
+    }
+    let first = next_covering(w, 0, n, o);
+    if first == n {
+        return 0;
+    }
+    let cid = k.cid;
+    if k.write {
+        return by_regions(w, first, n, o, cid, true, k.privileged, k.secure, WREN);
+    }
+    by_regions(w, first, n, o, cid, false, k.privileged, k.secure, RDEN)
+}
+
 // The verdict at an offset, by the words of n base regions. Too few words, or a CID over 7, are refused for the compartment.
 pub fn decide(bus: Bus, w: &[u32], n: usize, o: u32, k: Kind) -> Verdict
     ensures { λ r. ⌜ r ≡ decidedIn bus (now (w .entry)) n o k ⌝ }
@@ -81,9 +175,13 @@ pub fn decide(bus: Bus, w: &[u32], n: usize, o: u32, k: Kind) -> Verdict
         return nothing;
     }
     let heard = bus.hears(k);
-    let first = next_covering(w, 0, n, o);
-    if first == n {
-        return judged(by_default(bus), heard);
+    let v = governed(w, n, o, heard);
+    if v == 0 {
+        let reason = default_reason(bus, heard);
+        return Verdict { rule: 0, reason };
     }
-    judged(by_regions(gathered(w, first, n, o)), heard)
+    Verdict {
+        rule: v % 4,
+        reason: v / 4,
+    }
 }

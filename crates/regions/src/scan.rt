@@ -2,6 +2,7 @@ use crate::ahead::end_ahead;
 use crate::ahead::start_ahead;
 use crate::masks::Masks;
 use crate::masks::none_gathered;
+use crate::masks::openings;
 use crate::masks::with_base;
 use crate::masks::with_sub;
 use crate::places::BASE_WORDS;
@@ -15,7 +16,7 @@ ghost use mathlib.Core.Path.{_≡_};
 ghost use Prim.Native.Nat.{_+_, _≤_, _<_};
 ghost use lib.ListN.{length};
 ghost use Rattle.regions.specs.Ahead.{ahead, baseAhead, insideAhead, subAhead};
-ghost use Rattle.regions.specs.Masks.{baseGathered, insideGathered, masks, subGathered};
+ghost use Rattle.regions.specs.Masks.{baseGathered, insideGathered, masks, openings, subGathered};
 ghost use Rattle.regions.specs.Words.{base, regionWords, sub};
 
 // What the base regions that were looked at say at an offset, and up to where they say that.
@@ -27,7 +28,7 @@ pub(crate) struct Scan {
 // With subregion s of base region x, which covers: START alone is ahead before it, and nothing past END.
 fn sub_scanned(w: &[u32], x: usize, s: usize, o: u32, scan: Scan) -> Scan
     requires { ⌜ (base x + regionWords ≤ length (now w)) × (s < 2) ⌝ }
-    ensures { λ r. ⌜ r .masks ≡ subGathered (now (w .entry)) x s o (scan .masks) ⌝ }
+    ensures { λ r. ⌜ r .masks ≡ subGathered openings (now (w .entry)) x s o (scan .masks) ⌝ }
     ensures { λ r. ⌜ r .to ≡ subAhead (now (w .entry)) (sub x s) o (scan .to) ⌝ }
 {
     let b = REGION_WORDS * x;
@@ -46,7 +47,7 @@ fn sub_scanned(w: &[u32], x: usize, s: usize, o: u32, scan: Scan) -> Scan
         return scan;
     }
     Scan {
-        masks: with_sub(w[b], w[p], scan.masks),
+        masks: with_sub(w[b], w[p], openings(w[p]), scan.masks),
         to: end_ahead(w[p + END], scan.to),
     }
 }
@@ -54,7 +55,7 @@ fn sub_scanned(w: &[u32], x: usize, s: usize, o: u32, scan: Scan) -> Scan
 // With base region x, which covers, and its subregions.
 fn inside_scanned(w: &[u32], x: usize, o: u32, s: Scan) -> Scan
     requires { ⌜ base x + regionWords ≤ length (now w) ⌝ }
-    ensures { λ r. ⌜ r .masks ≡ insideGathered (now (w .entry)) x o (s .masks) ⌝ }
+    ensures { λ r. ⌜ r .masks ≡ insideGathered openings (now (w .entry)) x o (s .masks) ⌝ }
     ensures { λ r. ⌜ r .to ≡ insideAhead (now (w .entry)) x o (s .to) ⌝ }
 {
     let b = REGION_WORDS * x;
@@ -69,7 +70,7 @@ fn inside_scanned(w: &[u32], x: usize, o: u32, s: Scan) -> Scan
 // it covers.
 fn base_scanned(w: &[u32], x: usize, o: u32, s: Scan) -> Scan
     requires { ⌜ base x + regionWords ≤ length (now w) ⌝ }
-    ensures { λ r. ⌜ r .masks ≡ baseGathered (now (w .entry)) x o (s .masks) ⌝ }
+    ensures { λ r. ⌜ r .masks ≡ baseGathered openings (now (w .entry)) x o (s .masks) ⌝ }
     ensures { λ r. ⌜ r .to ≡ baseAhead (now (w .entry)) x o (s .to) ⌝ }
 {
     let b = REGION_WORDS * x;
@@ -92,7 +93,7 @@ fn base_scanned(w: &[u32], x: usize, o: u32, s: Scan) -> Scan
 // With the first n base regions, in one pass.
 pub(crate) fn scanned(w: &[u32], n: usize, o: u32, to: u64) -> Scan
     requires { ⌜ base n ≤ length (now w) ⌝ }
-    ensures { λ r. ⌜ r .masks ≡ masks (now (w .entry)) n o ⌝ }
+    ensures { λ r. ⌜ r .masks ≡ masks openings (now (w .entry)) n o ⌝ }
     ensures { λ r. ⌜ r .to ≡ ahead (now (w .entry)) n o to ⌝ }
 {
     let mut s = Scan {

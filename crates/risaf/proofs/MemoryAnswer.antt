@@ -15,7 +15,6 @@ use Rattle.access.specs.declared.answer.Answer.the-variants.{Done, Refused, Rej
 use Rattle.access.specs.declared.answer.Why.the-variants.{NoSuch, Misaligned, Outside}
 use Rattle.access.specs.Kind.{debugger, isCid}
 use Rattle.access.specs.declared.bus.Bus.{Bus}
-use Rattle.access.specs.declared.checks.Checks.{Checks}
 use Rattle.access.specs.declared.kind.Kind.{Kind}
 use Rattle.regions.specs.Lent.{decidedIn}
 use Rattle.risaf.specs.Memory.{isWidth, memoryChecks, memoryAnswer, memoryChecked}

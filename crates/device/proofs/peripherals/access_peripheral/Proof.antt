@@ -1,7 +1,6 @@
 use borrow.Author.Needs.{needs}
 use borrow.Author.Tests.{not-true, not-false}
-use mathlib.Core.Path.{ap, sym, _∙_}
-use Rattle.rifsc.specs.Peripherals.{grants}
+use mathlib.Core.Path.{sym, _∙_}
 use Rattle.device.specs.Layout.{stateOf}
 use Rattle.device.proofs.PeripheralSteps.{no-peripheral, peripheral-fetched, peripheral-granted, peripheral-refused}
 use Rattle.device.proofs.peripherals.access_peripheral.Statement.{statement}

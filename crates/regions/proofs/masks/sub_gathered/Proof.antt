@@ -11,12 +11,12 @@ returns c = simp (← c .before .covers .ensures, not-true (c .before .covers .r
 returns-2 : tie.Need-returns-2
 unfolding subGathered
 returns-2 c =
-    let b = c .before .before .before in
-    simp (← b .before .covers .ensures, not-false (b .before .covers .result) (b .if1 .left)) (c .with-sub .ensures)
+    let b = c .before .before .before .before .before in
+    simp (← b .before .covers .ensures, not-false (b .before .covers .result) (b .if1 .left), ← c .before .serving .ensures) (c .with-sub .ensures)
 
 pub sub-gathered-spec : {M : Type 1} → statement M
 sub-gathered-spec =
     tie.close
     (tie.spec (λ c. search needs) (λ c. search needs) (λ c. search needs) (λ c. search needs) (λ c κs. search needs)
     returns (λ c. search needs) (λ c. search needs) (λ c. search needs) (λ c. search needs) (λ c. search needs)
-    (λ c κs. search needs) returns-2)
+    (λ c. search needs) (λ c. search needs) (λ c κs. search needs) (λ c κs. search needs) returns-2)

@@ -1,10 +1,13 @@
-use mathlib.Core.Path.{ap, ap₂, sym, _∙_}
+use mathlib.Core.Path.{ap, sym, _∙_}
+use Prim.Native.Nat.{ℕ, _/_, _%_}
 use borrow.Author.Needs.{needs}
 use borrow.Author.Tests.{lt-leb, le-leb}
 use Rattle.access.proofs.Heard.{heard-cid}
-use Rattle.regions.specs.Admits.{byRegions, verdictOf}
+use Rattle.access.specs.declared.kind.Kind.{Kind}
+use Rattle.regions.specs.Admits.{governed}
 use Rattle.regions.specs.Lent.{decidedIn}
-use Rattle.regions.proofs.AdmitsTests.{none-found, one-found, verdict-is}
+use Rattle.regions.specs.Rules.{reasonOf, tests0}
+use Rattle.regions.proofs.Askings.{zero-default, packed-decided}
 use Rattle.regions.proofs.Enough.{decided-enough}
 use Rattle.regions.proofs.rules.decide.Statement.{statement}
 use Rattle.regions.proofs.rules.decide.Tie as tie
@@ -23,55 +26,42 @@ returns-3 c =
     let b = c .before .before .before in
     simp (le-leb _ _ (b .before .if1 .left), le-leb _ _ (b .if2 .left), lt-leb _ _ (c .if3 .taken))
 
-judged-requires : tie.Need-judged-requires
-judged-requires c κs =
-    let e = c .before .before .before in
+governed-requires : tie.Need-governed-requires
+governed-requires c κs =
+    let b = c .before .before .before .before in
+    let a = b .before .before .before .args in
+    (b .before .if1 .left, b .if2 .left, rw (c .hears .ensures) (heard-cid (a .bus) (a .k) (c .before .if3 .left)))
+
+default-reason-requires : tie.Need-default-reason-requires
+default-reason-requires c κs =
+    let e = c .before .before in
     let a = e .before .before .before .before .before .before .before .args in
     rw (e .hears .ensures) (heard-cid (a .bus) (a .k) (e .before .if3 .left))
 
 returns-4 : tie.Need-returns-4
 returns-4 c =
-    let s = c .before .before .before in
-    let e = s .before in
-    let d = e .before in
-    let b = d .before .before .before in
+    let g = c .before .before in
+    let e = g .before in
+    let b = e .before .before .before .before in
     let a = b .before .before .before .args in
-    c .judged .ensures
-    ∙ ap₂ verdictOf
-    (c .before .by-default .ensures ∙ none-found (a .bus) (a .w .now) (a .n) (a .o) (s .next-covering .ensures) (c .before .before .if4 .taken))
-    (e .hears .ensures)
-    ∙ verdict-is (a .bus) (a .w .now) (a .n) (a .o) (a .k) (d .if3 .left)
-    ∙ sym (decided-enough (a .bus) (a .w .now) (a .n) (a .o) (b .before .if1 .left) (b .if2 .left) (a .k) (d .if3 .left))
-
-gathered-requires : tie.Need-gathered-requires
-gathered-requires c κs =
-    let s = c .before in
-    let b = s .before .before .before .before .before in
-    (s .next-covering .ensures .high, b .if2 .left, s .next-covering .ensures .passed)
-
-judged-requires-2 : tie.Need-judged-requires-2
-judged-requires-2 c κs =
-    let e = c .before .before .before .before in
-    let a = e .before .before .before .before .before .before .before .args in
-    rw (e .hears .ensures) (heard-cid (a .bus) (a .k) (e .before .if3 .left))
+    zero-default (a .bus) (a .w .now) (a .n) (a .o) (a .k)
+    (ap (governed (a .w .now) (a .n) (a .o)) (sym (e .hears .ensures)) ∙ sym (g .governed .ensures) ∙ c .before .if4 .taken)
+    (c .default-reason .ensures ∙ ap (λ (k : Kind). reasonOf (tests0 (a .bus) k)) (e .hears .ensures))
+    ∙ sym (decided-enough (a .bus) (a .w .now) (a .n) (a .o) (b .before .if1 .left) (b .if2 .left) (a .k) (e .before .if3 .left))
 
 returns-5 : tie.Need-returns-5
 returns-5 c =
-    let s = c .before .before .before .before in
-    let e = s .before in
-    let d = e .before in
-    let b = d .before .before .before in
+    let g = c .before in
+    let e = g .before in
+    let b = e .before .before .before .before in
     let a = b .before .before .before .args in
-    c .judged2 .ensures
-    ∙ ap₂ verdictOf
-    (c .before .by-regions .ensures ∙ ap byRegions (c .before .before .gathered .ensures)
-    ∙ one-found (a .bus) (a .w .now) (a .n) (a .o) (s .next-covering .ensures) (c .before .before .before .if4 .left))
-    (e .hears .ensures)
-    ∙ verdict-is (a .bus) (a .w .now) (a .n) (a .o) (a .k) (d .if3 .left)
-    ∙ sym (decided-enough (a .bus) (a .w .now) (a .n) (a .o) (b .before .if1 .left) (b .if2 .left) (a .k) (d .if3 .left))
+    let v = g .governed .ensures ∙ ap (governed (a .w .now) (a .n) (a .o)) (e .hears .ensures) in
+    ap (λ (v : ℕ). record { rule = v % 4; reason = v / 4 }) v
+    ∙ packed-decided (a .bus) (a .w .now) (a .n) (a .o) (a .k) (λ z. c .if4 .left (v ∙ z))
+    ∙ sym (decided-enough (a .bus) (a .w .now) (a .n) (a .o) (b .before .if1 .left) (b .if2 .left) (a .k) (e .before .if3 .left))
 
 pub decide-spec : {M : Type 1} → statement M
 decide-spec =
     tie.close
-    (tie.spec returns (λ c. search needs) returns-2 returns-3 (λ c κs. search needs) (λ c κs. search needs)
-    (λ c κs. search needs) judged-requires returns-4 gathered-requires (λ c κs. search needs) judged-requires-2 returns-5)
+    (tie.spec returns (λ c. search needs) returns-2 returns-3 (λ c κs. search needs) governed-requires
+    default-reason-requires returns-4 returns-5)

@@ -4,14 +4,14 @@ use Prim.Native.Nat.{_≤_, _-_}
 use native.Mathlib.Omega.{arith}
 use borrow.Author.Needs.{needs}
 use Rattle.regions.specs.Ahead.{ahead}
-use Rattle.regions.specs.Masks.{masks}
+use Rattle.regions.specs.Masks.{masks, openings}
 use Rattle.regions.proofs.Gathered.{masks-more}
 use Rattle.regions.proofs.Lies.{ahead-more}
 use Rattle.regions.proofs.scan.scanned.Statement.{statement}
 use Rattle.regions.proofs.scan.scanned.Tie as tie
 
 abbrev Inv-loop : tie.InvT-loop
-Inv-loop w n o to s₀ x₀ s x = (x ≤ n) × (s .masks ≡ masks w x o) × (s .to ≡ ahead w x o to)
+Inv-loop w n o to s₀ x₀ s x = (x ≤ n) × (s .masks ≡ masks openings w x o) × (s .to ≡ ahead w x o to)
 
 abbrev μ-loop : tie.MeasureT-loop
 μ-loop w n o to s₀ x₀ s x = n - x
@@ -24,7 +24,7 @@ loop-again : tie.Need-loop-again Inv-loop μ-loop
 loop-again c =
     let l = c .before .before .loop .inv in
     let r = c .base-scanned .ensures in
-    (search needs, masks-more _ _ _ (l .1) (r .0), ahead-more _ _ _ _ (l .2) (r .1))
+    (search needs, masks-more _ _ _ _ (l .1) (r .0), ahead-more _ _ _ _ (l .2) (r .1))
 
 returns : tie.Need-returns Inv-loop μ-loop
 returns c =
@@ -34,5 +34,5 @@ returns c =
 pub scanned-spec : {M : Type 1} → statement M
 scanned-spec =
     tie.close
-    (tie.spec Inv-loop μ-loop (λ c κs. search needs) loop-holds (λ c κs. search needs) (λ c. search needs) (λ c. search needs) loop-again
-    returns)
+    (tie.spec Inv-loop μ-loop (λ c κs. search needs) loop-holds (λ c κs. search needs) (λ c. search needs)
+    (λ c. search needs) loop-again returns)

@@ -1,0 +1,218 @@
+-- What the code gathers for one asking, and its verdict: that of the rules.
+use mathlib.Core.Bool.{Bool, true, false, _&&_, _||_, cond, Bool·beq, and-true, or-true, or-false}
+use mathlib.Core.List.{List}
+use mathlib.Core.Path.{_≡_, refl, sym, ap, ap₂, _∙_}
+use Prim.Native.Nat.{ℕ, _+_, _*_, _/_, _%_, _^_, _≤_, _<_}
+use native.Mathlib.Omega.{arith}
+use lib.Bits.{bitAnd, bitOr}
+use lib.Dec.{eqb}
+use lib.ListN.{getD}
+use Rattle.words.specs.Bit.{bit}
+use Rattle.words.proofs.Laws.{bit-zero, field-lt}
+use Rattle.words.proofs.Ops.{bit-and, bit-or}
+use Rattle.access.specs.Fold.{all}
+use Rattle.access.specs.Bus.{heard}
+use Rattle.access.specs.declared.bus.Bus.{Bus}
+use Rattle.access.specs.declared.bus.Bus.the-variants.{Axi}
+use Rattle.access.specs.declared.kind.Kind.{Kind}
+use Rattle.access.proofs.Folds.{any-same}
+use Rattle.regions.specs.Words.{sub, srcidBit, rdenBit, wrenBit}
+use Rattle.regions.specs.Rules.{Tests, reasonOf, ruleOf, covers, counts, srcid, opens, someSub, counted, covered, tests0, tests1, tests2, tests, decided}
+use Rattle.regions.specs.Masks.{masks, subGathered, serving, askers}
+use Rattle.regions.specs.Admits.{allIf, byAsked, byBases, bySubs, governed, packed, testsOf, verdictOf}
+use Rattle.regions.specs.declared.masks.Masks.{Masks}
+use Rattle.regions.specs.declared.rules.Verdict.{Verdict}
+use Rattle.regions.proofs.AdmitsTests.{all-if, bases-tests, none-counted, subs-tests}
+use Rattle.regions.proofs.MaskBits.{ap-cond, or-cond, some-sub}
+use Rattle.regions.proofs.Openings.{all-at, beq-is}
+
+-- ---- a subregion's CFGR
+
+-- the enable of a direction
+abbrev pub denOf : Bool → ℕ
+denOf write = cond write wrenBit rdenBit
+
+-- SRCID i serves compartment c, by a test that computes
+abbrev serves : ℕ → ℕ → ℕ → Bool
+serves den c i = Bool·beq (bit (askers c den / 2 ^ i) den) (eqb i c || eqb c 7)
+
+all-serve : (d : Bool) → all 8 (λ c. all 8 (serves (denOf d) c)) ≡ true
+all-serve true = refl
+all-serve false = refl
+
+served : (d : Bool) (c i : ℕ) → c < 8 → i < 8 → bit (askers c (denOf d) / 2 ^ i) (denOf d) ≡ (eqb i c || eqb c 7)
+served d c i h l =
+    beq-is (bit (askers c (denOf d) / 2 ^ i) (denOf d)) (eqb i c || eqb c 7)
+    (all-at 8 (serves (denOf d) c) (all-at 8 (λ c. all 8 (serves (denOf d) c)) (all-serve d) c h) i l)
+
+one-bit : (d : Bool) → bit 1 (denOf d) ≡ false
+one-bit true = refl
+one-bit false = refl
+
+and-swap : (a b : Bool) → (a && (b || false)) ≡ (b && a)
+and-swap true true = refl
+and-swap true false = refl
+and-swap false true = refl
+and-swap false false = refl
+
+-- a region that covers is enabled: e
+own : (a e i : Bool) → cond (e && i) (a || e) a ≡ (a || (e && i) && true)
+own a true true = refl
+own a true false = sym (or-false a)
+own a false i = sym (or-false a)
+
+-- ---- all that count
+
+module _ (w : List ℕ) (o : ℕ) where
+  asked-counted : (who n : ℕ) → bit (masks (serving who) w n o .opens) 0 ≡ counted w n o
+  unfolding masks subGathered
+  asked-counted who n =
+      some-sub (serving who) w o (λ m. bit (m .opens) 0) (λ x s. true) (λ x m. refl) (bit-zero 0)
+      (λ x s m.
+      ap-cond (λ (l : Masks). bit (l .opens) 0) (covers w (sub x s) o) _ m
+      ∙ ap (λ (b : Bool). cond (covers w (sub x s) o) b (bit (m .opens) 0))
+      (bit-or (m .opens) _ 0 ∙ ap (λ (b : Bool). bit (m .opens) 0 || b) (enabled (getD w (sub x s) 0) (who / 2 ^ (srcid w x s .0))))
+      ∙ own (bit (m .opens) 0) (bit (getD w (sub x s) 0) 0) _) n
+      ∙ any-same n _ _ (λ x h. any-same 2 _ _ (λ s l. and-true (counts w o x s)))
+    where
+      enabled : (cfgr x : ℕ) → bit (bitAnd cfgr (bitOr x 1)) 0 ≡ bit cfgr 0
+      enabled cfgr x =
+          bit-and cfgr (bitOr x 1) 0 ∙ ap (λ (b : Bool). bit cfgr 0 && b) (bit-or x 1 0 ∙ or-true (bit x 0))
+          ∙ and-true (bit cfgr 0)
+
+  asked-open : (d : Bool) (c n : ℕ) → c < 8
+      → bit (masks (serving (askers c (denOf d))) w n o .opens) (denOf d)
+      ≡ someSub w n o (λ x s. (eqb (srcid w x s .0) c || eqb c 7) && bit (getD w (sub x s) 0) (denOf d))
+  unfolding masks subGathered
+  asked-open d c n h =
+      some-sub (serving (askers c (denOf d))) w o (λ m. bit (m .opens) (denOf d))
+      (λ x s. (eqb (srcid w x s .0) c || eqb c 7) && bit (getD w (sub x s) 0) (denOf d)) (λ x m. refl) (bit-zero (denOf d))
+      (λ x s m.
+      ap-cond (λ (l : Masks). bit (l .opens) (denOf d)) (covers w (sub x s) o) _ m
+      ∙ ap (λ (b : Bool). cond (covers w (sub x s) o) b (bit (m .opens) (denOf d)))
+      (bit-or (m .opens) _ (denOf d) ∙ ap (λ (b : Bool). bit (m .opens) (denOf d) || b) (one (getD w (sub x s) 0) (srcid w x s .0) (field-lt _ srcidBit 3)))
+      ∙ or-cond (covers w (sub x s) o) (bit (m .opens) (denOf d)) _) n
+    where
+      one : (cfgr i : ℕ) → i < 8
+          → bit (bitAnd cfgr (bitOr (askers c (denOf d) / 2 ^ i) 1)) (denOf d) ≡ ((eqb i c || eqb c 7) && bit cfgr (denOf d))
+      one cfgr i l =
+          bit-and cfgr (bitOr (askers c (denOf d) / 2 ^ i) 1) (denOf d)
+          ∙ ap (λ (b : Bool). bit cfgr (denOf d) && b) (bit-or (askers c (denOf d) / 2 ^ i) 1 (denOf d) ∙ ap₂ _||_ (served d c i h l) (one-bit d))
+          ∙ and-swap (bit cfgr (denOf d)) (eqb i c || eqb c 7)
+
+-- ---- the verdict
+
+module _ (w : List ℕ) (n o : ℕ) (k : Kind) (h : k .cid .0 ≤ 7) where
+  abbrev den : ℕ
+  den = denOf (k .write)
+
+  abbrev adds : ℕ → ℕ
+  adds = serving (askers (k .cid .0) den)
+
+  abbrev m : Masks
+  m = masks adds w n o
+
+  opened : bit (m .opens) den ≡ someSub w n o (opens w k)
+  opened = by (k .write)
+    where
+      by : (d : Bool)
+          → bit (masks (serving (askers (k .cid .0) (denOf d))) w n o .opens) (denOf d)
+          ≡ someSub w n o
+          (λ x s.
+          (eqb (srcid w x s .0) (k .cid .0) || eqb (k .cid .0) 7) && cond d (bit (getD w (sub x s) 0) wrenBit) (bit (getD w (sub x s) 0) rdenBit))
+      by true = asked-open w o true (k .cid .0) n (omega (arith, h))
+      by false = asked-open w o false (k .cid .0) n (omega (arith, h))
+
+  -- in either direction
+  may : (d b : Bool) → bit (cond d (allIf b) (allIf b)) (k .cid .0) ≡ b
+  may true b = all-if adds w n o k h b b refl
+  may false b = all-if adds w n o k h b b refl
+
+  pub asked-is : covered w n o ≡ true → verdictOf (byAsked den m) k ≡ decided Axi w n o k
+  unfolding decided tests byAsked verdictOf bySubs byBases
+  asked-is e = rw e (by (counted w n o) (asked-counted w o (askers (k .cid .0) den) n))
+    where
+      by : (c : Bool) → bit (m .opens) 0 ≡ c
+          → verdictOf (cond (bit (m .opens) 0) (bySubs m (allIf (bit (m .opens) den)) (allIf (bit (m .opens) den))) (byBases m)) k
+          ≡ record { rule = cond c 2 1; reason = reasonOf (cond c (tests2 w n o k) (tests1 w n o k)) }
+      by true f =
+          rw f (ap (λ t. record { rule = 2; reason = reasonOf t }) (subs-tests adds w n o k h _ _ (may (k .write) (bit (m .opens) den) ∙ opened)))
+      by false f = rw f (ap (λ t. record { rule = 1; reason = reasonOf t }) (bases-tests adds w n o k h))
+
+  -- in the code's calls, the direction by itself
+  pub governed-as : (d : Bool) → k .write ≡ d → covered w n o ≡ true
+      → packed (verdictOf (byAsked (denOf d) (masks (serving (askers (k .cid .0) (denOf d))) w n o)) (record { cid = k .cid; write = d; privileged = k .privileged; secure = k .secure }))
+      ≡ governed w n o k
+  governed-as d e f = rw (← e) (rw f (ap packed (asked-is f)))
+
+  pub governed-none : covered w n o ≡ false → 0 ≡ governed w n o k
+  governed-none e = rw e refl
+
+-- ---- the verdict in one number
+
+pub reason-most : (t : Tests) → reasonOf t ≤ 3
+reason-most t = go (t .security) (t .privilege) (t .compartment)
+  where
+    go : (a b c : Bool) → cond a (cond b (cond c 0 3) 2) 1 ≤ 3
+    go true true true = omega arith
+    go true true false = omega arith
+    go true false c = omega arith
+    go false b c = omega arith
+
+-- of one asking
+pub asked-most : (den : ℕ) (m : Masks) (k : Kind) {v : Verdict} → v ≡ verdictOf (byAsked den m) k → (v .rule ≤ 2) × (v .reason ≤ 3)
+unfolding verdictOf byAsked bySubs byBases
+asked-most den m k e = rw e (go (bit (m .opens) 0), reason-most (testsOf (byAsked den m) k))
+  where
+    go : (b : Bool) → cond b (bySubs m (allIf (bit (m .opens) den)) (allIf (bit (m .opens) den))) (byBases m) .rule ≤ 2
+    go true = omega arith
+    go false = omega arith
+
+unpacked : (a b : ℕ) → a ≤ 2 → _≡_ {A = Verdict} (record { rule = (a + 4 * b) % 4; reason = (a + 4 * b) / 4 }) (record { rule = a; reason = b })
+unpacked a b h =
+    let r : (a + 4 * b) % 4 ≡ a = omega (arith, h) in
+    let q : (a + 4 * b) / 4 ≡ b = omega (arith, h) in
+    cc
+
+module _ (bus : Bus) (w : List ℕ) (n o : ℕ) (k : Kind) where
+  abbrev h : Kind
+  h = heard bus k
+
+  -- rule 1 or 2, by whether a subregion counts
+  ruled : Bool → Verdict
+  ruled c = record { rule = cond c 2 1; reason = reasonOf (cond c (tests2 w n o h) (tests1 w n o h)) }
+
+  ruled-most : (c : Bool) → (1 ≤ ruled c .rule) × (ruled c .rule ≤ 2)
+  unfolding ruled
+  ruled-most true = (omega arith, omega arith)
+  ruled-most false = (omega arith, omega arith)
+
+  covered-by : (b : Bus) → covered w n o ≡ true
+      → _≡_ {A = Verdict} (record { rule = ruleOf w n o; reason = reasonOf (tests b w n o h) }) (ruled (counted w n o))
+  unfolding tests ruled
+  covered-by b e = rw e refl
+
+  -- where it is 0, rule 0 governs
+  pub zero-default : governed w n o h ≡ 0 → {r : ℕ} → r ≡ reasonOf (tests0 bus h) → _≡_ {A = Verdict} (record { rule = 0; reason = r }) (decided bus w n o k)
+  unfolding decided tests
+  zero-default z {r} e = go (covered w n o) refl
+    where
+      go : (c : Bool) → covered w n o ≡ c
+          → _≡_ {A = Verdict} (record { rule = 0; reason = r }) (record { rule = ruleOf w n o; reason = reasonOf (tests bus w n o h) })
+      go true f =
+          let p : packed (ruled (counted w n o)) ≡ 0 = ap packed (sym (covered-by Axi f)) ∙ sym (ap (λ (b : Bool). cond b (packed (decided Axi w n o h)) 0) f) ∙ z in
+          let m = ruled-most (counted w n o) in
+          absurd (omega (arith, p, m .0))
+      go false f = rw (none-counted w o n f, f) (ap {B = Verdict} (λ r. record { rule = 0; reason = r }) e)
+
+  pub packed-decided : (governed w n o h ≡ 0 → ⊥)
+      → _≡_ {A = Verdict} (record { rule = governed w n o h % 4; reason = governed w n o h / 4 }) (decided bus w n o k)
+  unfolding decided
+  packed-decided d = go (covered w n o) refl
+    where
+      go : (c : Bool) → covered w n o ≡ c
+          → _≡_ {A = Verdict} (record { rule = governed w n o h % 4; reason = governed w n o h / 4 }) (decided bus w n o k)
+      go true f =
+          let p : governed w n o h ≡ packed (ruled (counted w n o)) = ap (λ (b : Bool). cond b (packed (decided Axi w n o h)) 0) f ∙ ap packed (covered-by Axi f) in
+          rw p (unpacked _ _ (ruled-most (counted w n o) .1)) ∙ sym (covered-by bus f)
+      go false f = absurd (d (ap (λ (b : Bool). cond b (packed (decided Axi w n o h)) 0) f))
