@@ -45,17 +45,17 @@ fn one(state: &mut [u32], answers: &mut [u64], i: usize, a: MemoryAccess)
         × (now (answers .exit) ≡ set (now (answers .entry)) i (encodedOf (appliedAnswer (Memory a) (now (state .entry))))) ⌝ }
 {
     let guard = a.guard;
-    let k = a.kind;
-    let cid = k.cid;
+    let kind = a.kind;
+    let cid = kind.cid;
     let answer = device::memory_encoded(
         state,
         guard,
         a.offset,
         a.width,
-        k.write,
+        kind.write,
         cid,
-        k.secure,
-        k.privileged,
+        kind.secure,
+        kind.privileged,
     );
     answers[i] = answer;
 }

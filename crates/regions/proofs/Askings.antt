@@ -18,11 +18,11 @@ use Rattle.access.specs.declared.kind.Kind.{Kind}
 use Rattle.access.proofs.Folds.{any-same}
 use Rattle.regions.specs.Words.{sub, srcidBit, rdenBit, wrenBit}
 use Rattle.regions.specs.Rules.{Tests, reasonOf, ruleOf, covers, counts, srcid, opens, someSub, counted, covered, tests0, tests1, tests2, tests, decided}
-use Rattle.regions.specs.Masks.{masks, subGathered, serving, askers}
+use Rattle.regions.specs.Masks.{Next, masks, subGathered, serving, askers}
 use Rattle.regions.specs.Admits.{allIf, byAsked, byBases, bySubs, governed, packed, testsOf, verdictOf}
 use Rattle.regions.specs.declared.masks.Masks.{Masks}
 use Rattle.regions.specs.declared.rules.Verdict.{Verdict}
-use Rattle.regions.proofs.AdmitsTests.{all-if, bases-tests, none-counted, subs-tests}
+use Rattle.regions.proofs.AdmitsTests.{all-if, bases-tests, none-counted, some-covered, subs-tests}
 use Rattle.regions.proofs.MaskBits.{ap-cond, or-cond, some-sub}
 use Rattle.regions.proofs.Openings.{all-at, beq-is}
 
@@ -140,10 +140,18 @@ module _ (w : List ℕ) (n o : ℕ) (k : Kind) (h : k .cid .0 ≤ 7) where
       by false f = rw f (ap (λ t. record { rule = 1; reason = reasonOf t }) (bases-tests adds w n o k h))
 
   -- in the code's calls, the direction by itself
-  pub governed-as : (d : Bool) → k .write ≡ d → covered w n o ≡ true
+  governed-as : (d : Bool) → k .write ≡ d → covered w n o ≡ true
       → packed (verdictOf (byAsked (denOf d) (masks (serving (askers (k .cid .0) (denOf d))) w n o)) (record { cid = k .cid; write = d; privileged = k .privileged; secure = k .secure }))
       ≡ governed w n o k
   governed-as d e f = rw (← e) (rw f (ap packed (asked-is f)))
+
+  -- where the search found one
+  pub found-as : (d : Bool) → k .write ≡ d → {r : ℕ} → Next w o 0 n r → (r ≡ n → ⊥)
+      → packed (verdictOf (byAsked (denOf d) (masks (serving (askers (k .cid .0) (denOf d))) w n o)) (record { cid = k .cid; write = d; privileged = k .privileged; secure = k .secure }))
+      ≡ governed w n o k
+  found-as d e {r} next f =
+      let l : r < n = omega (arith, next .high, f) in
+      governed-as d e (some-covered w o n r l (next .found l))
 
   pub governed-none : covered w n o ≡ false → 0 ≡ governed w n o k
   governed-none e = rw e refl

@@ -1,11 +1,10 @@
 use borrow.Author.Needs.{needs}
 use mathlib.Core.Bool.{true, false, not, Bool·not-not}
 use mathlib.Core.Path.{_≡_, ap, sym, _∙_}
-use Prim.Native.Nat.{_<_}
 use native.Mathlib.Omega.{arith}
 use Rattle.regions.specs.Masks.{someEnabled}
-use Rattle.regions.proofs.AdmitsTests.{none-covered, some-covered}
-use Rattle.regions.proofs.Askings.{governed-as, governed-none}
+use Rattle.regions.proofs.AdmitsTests.{none-covered}
+use Rattle.regions.proofs.Askings.{found-as, governed-none}
 use Rattle.regions.proofs.Enabled.{unenabled-uncovered}
 use Rattle.regions.proofs.rules.governed.Statement.{statement}
 use Rattle.regions.proofs.rules.governed.Tie as tie
@@ -35,11 +34,9 @@ returns-3 : tie.Need-returns-3
 returns-3 c =
     let p = c .before .before .before .before .before .before .before in
     let a = p .args in
-    let x = c .before .before .before .before .next-covering in
-    let l : x .result < a .n = omega (arith, x .ensures .high, c .before .before .before .if3 .left) in
     c .by-regions .ensures
-    ∙ governed-as (a .w .now) (a .n) (a .o) (a .k) (p .pre .2) true (c .before .if4 .taken)
-    (some-covered (a .w .now) (a .o) (a .n) (x .result) l (x .ensures .found l))
+    ∙ found-as (a .w .now) (a .n) (a .o) (a .k) (p .pre .2) true (c .before .if4 .taken) (c .before .before .before .before .next-covering .ensures)
+    (c .before .before .before .if3 .left)
 
 by-regions-requires-2 : tie.Need-by-regions-requires-2
 by-regions-requires-2 c κs =
@@ -51,11 +48,9 @@ returns-4 : tie.Need-returns-4
 returns-4 c =
     let p = c .before .before .before .before .before .before .before in
     let a = p .args in
-    let x = c .before .before .before .before .next-covering in
-    let l : x .result < a .n = omega (arith, x .ensures .high, c .before .before .before .if3 .left) in
     c .by-regions2 .ensures
-    ∙ governed-as (a .w .now) (a .n) (a .o) (a .k) (p .pre .2) false (c .before .if4 .left)
-    (some-covered (a .w .now) (a .o) (a .n) (x .result) l (x .ensures .found l))
+    ∙ found-as (a .w .now) (a .n) (a .o) (a .k) (p .pre .2) false (c .before .if4 .left) (c .before .before .before .before .next-covering .ensures)
+    (c .before .before .before .if3 .left)
 
 pub governed-spec : {M : Type 1} → statement M
 governed-spec =

@@ -51,15 +51,13 @@ returns-5 c =
 returns-6 : tie.Need-returns-6
 returns-6 c =
     let f = c .before .before in
-    let l = f .before .aligned in
     let e = f .before .before in
-    let w = e .before .is-width in
     let d = e .before .before in
     let b = d .before .before .before in
     let a = b .before .args in
-    let ew = sym (w .ensures) ∙ not-false (w .result) (e .if3 .left) in
-    passed (a .there) (a .shape) (a .o) (a .width) (a .k) (not-false (a .there) (b .if1 .left)) (le-leb _ _ (d .if2 .left)) ew
-    (sym (l .ensures ew) ∙ not-false (l .result) (f .if4 .left)) (lt-ltb _ _ (c .if5 .left))
+    let ew = sym (e .before .is-width .ensures) ∙ not-false (e .before .is-width .result) (e .if3 .left) in
+    let ea = sym (f .before .aligned .ensures ew) ∙ not-false (f .before .aligned .result) (f .if4 .left) in
+    passed (a .there) (a .shape) (a .o) (a .width) (a .k) (not-false (a .there) (b .if1 .left)) (le-leb _ _ (d .if2 .left)) ew ea (lt-ltb _ _ (c .if5 .left))
 
 pub memory-checked-spec : {M : Type 1} → statement M
 memory-checked-spec =
