@@ -1,8 +1,8 @@
 -- Fields of a fixed length: a reader that reads n bytes, none of them a tab, reads the field at a place where a field may end behind n bytes.
-use mathlib.Core.Bool.{Bool, true, false, not, _&&_, true≢false}
+use mathlib.Core.Bool.{Bool, true, false, not, _&&_, and-false, true≢false}
 use mathlib.Core.List.{List, [], _∷_}
 use mathlib.Core.Path.{_≡_, refl, sym, ap, _∙_}
-use Prim.Native.Nat.{ℕ, _+_, _-_, _<_}
+use Prim.Native.Nat.{ℕ, _+_, _<_}
 use native.Mathlib.Omega.{arith}
 use borrow.Author.Tests.{ne-eqb, eqb-true, eqb-false}
 use lib.Dec.{eqb}
@@ -27,10 +27,8 @@ module _ {R : Type 0} {n : ℕ} {read : List ℕ → R} {bad : R} (fixed : Fixed
   sized : length (fieldFrom line p) ≡ n → Field line p n
   sized e = rw e at (field line p (some-there line p (omega (arith, fixed .some))))
 
-  pub read-there : endsAt line (p + n) ≡ true → read (take (p + n - p) (drop p line)) ≡ read (fieldFrom line p)
-  read-there h =
-      let e : p + n - p ≡ n = omega arith in
-      rw e (go (eqb (length (fieldFrom line p)) n) refl)
+  pub read-there : endsAt line (p + n) ≡ true → read (take n (drop p line)) ≡ read (fieldFrom line p)
+  read-there h = go (eqb (length (fieldFrom line p)) n) refl
     where
       bytes : noTabs (take n (drop p line)) ≡ true → length (fieldFrom line p) ≡ n
       bytes t =
@@ -58,10 +56,6 @@ module _ {R : Type 0} {n : ℕ} {read : List ℕ → R} {bad : R} (fixed : Fixed
       go false e = absurd (k (fixed .long (fieldFrom line p) (eqb-false (length (fieldFrom line p)) n e)))
 
 -- ---- the readers
-
-and-false : (t : Bool) → (t && false) ≡ false
-and-false true = refl
-and-false false = refl
 
 hex-tabs : (s : List ℕ) → noTabs s ≡ false → every isHex s ≡ false
 unfolding every

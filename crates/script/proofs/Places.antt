@@ -62,6 +62,23 @@ from-other line i h e =
     let s : i + 1 ≡ suc i = omega arith in
     rw (s, step-other line i h e, onto-first) (omega arith)
 
+pub field-other : (line : List ℕ) (i : ℕ) → i < length line → (getD line i 0 ≡ tab → ⊥)
+    → fieldFrom line i ≡ getD line i 0 ∷ fieldFrom line (i + 1)
+field-other line i h e =
+    let s : i + 1 ≡ suc i = omega arith in
+    rw (s, step-other line i h e) (onto-first (getD line i 0) (restAt (suc i) line))
+
+pub field-tab : (line : List ℕ) (i : ℕ) → i < length line → getD line i 0 ≡ tab → fieldFrom line i ≡ []
+field-tab line i h e = rw (step-tab line i h e)
+
+-- from the line's end on there is none, or an empty one
+pub field-end : (line : List ℕ) (i : ℕ) → length line ≤ i → fieldFrom line i ≡ []
+field-end line i h = go (eqb i (length line)) refl
+  where
+    go : (t : Bool) → eqb i (length line) ≡ t → fieldFrom line i ≡ []
+    go true e = rw (at-end line i (eqb-true i (length line) e))
+    go false e = let n = eqb-false i (length line) e in rw (past-end line i (omega arith))
+
 -- ---- the field at a place, as a part of the line
 
 -- the field at place p is the n bytes there, and the next starts behind the byte that ends it
@@ -200,17 +217,3 @@ module _ {line : List ℕ} {fs : List (List ℕ)} {k p : ℕ} (s : Starts line f
   pub other-count : (p ≡ suc (length line) → ⊥) → eqb (length fs) k ≡ false
   other-count h =
       ne-eqb (length fs) k λ e. omega (arith, h, s .within, some-rest line p (omega (arith, s .within)), ap length (s .rest), length-drop k fs)
-
--- ---- the field at a place, cut out
-
-pub no-field : (line : List ℕ) (p : ℕ) → length line < endFrom line p → [] ≡ fieldFrom line p
-no-field line p h = go (ltb (length line) p) refl
-  where
-    go : (t : Bool) → ltb (length line) p ≡ t → [] ≡ fieldFrom line p
-    go true e = rw (past-end line p (ltb-true (length line) p e))
-    go false e = absurd (omega (arith, field line p (ltb-false (length line) p e) .within))
-
-pub part-field : (line : List ℕ) (p e : ℕ) → e ≡ endFrom line p → e ≤ length line → take (e - p) (drop p line) ≡ fieldFrom line p
-part-field line p e q h =
-    let n : e - p ≡ length (fieldFrom line p) = omega arith in
-    rw n (sym (field-bytes line p (length (fieldFrom line p)) (field line p (omega arith))))

@@ -4,7 +4,7 @@ use mathlib.Core.Bool.{Bool, true, false, cond, true≢false, false≢true}
 use mathlib.Core.List.{List, [], _∷_}
 use mathlib.Core.Logic.{_⊎_, inl, inr}
 use mathlib.Core.Path.{_≡_, refl, sym, ap, _∙_}
-use Prim.Native.Nat.{ℕ, suc, _+_, _<_}
+use Prim.Native.Nat.{ℕ, suc, _+_, _≤_, _<_}
 use native.Mathlib.Numerals.{add-one}
 use native.Mathlib.Omega.{arith}
 use borrow.Author.Tests.{eq-eqb, ne-eqb, eqb-true, eqb-false}
@@ -13,24 +13,23 @@ use lib.ListN.{length, length-drop}
 use lib.Seq.{getD-drop}
 use Rattle.device.specs.declared.event.Block.{Block}
 use Rattle.device.specs.declared.event.Operation.{Operation}
-use Rattle.risaf.specs.declared.guards.GuardNumber.{GuardNumber}
-use Rattle.script.specs.Command.{choiceOr, numberOr, requestFields, rightsFields, targetFields, writeOf}
-use Rattle.script.specs.Fields.{tab, fieldAt, fieldsOf, same}
+use Rattle.script.specs.Command.{numberOr, requestFields, rightsFields}
+use Rattle.script.specs.Fields.{tab, fieldAt}
 use Rattle.script.specs.Numbers.{hexOf, decimalOf, eitherOf, operationOf}
-use Rattle.script.specs.Places.{restAt, fieldFrom, endFrom, Starts, hexStep, lastRights}
+use Rattle.script.specs.Places.{restAt, fieldFrom, endFrom, decimalAt, Starts, lastRights}
 use Rattle.script.specs.declared.events.Rights.{Rights}
 use Rattle.script.specs.declared.events.Rights.the-variants.{Are, NoRights}
-use Rattle.script.specs.declared.events.Target.{Target}
-use Rattle.script.specs.declared.events.Target.the-variants.{At, NoTarget}
 use Rattle.script.specs.declared.numbers.Number.{Number}
 use Rattle.script.specs.declared.numbers.Number.the-variants.{Value, NoNumber}
+use Rattle.script.specs.declared.numbers.Decimal.{Decimal}
+use Rattle.script.specs.declared.numbers.Decimal.the-variants.{NoDecimal, Till}
 use Rattle.script.specs.declared.numbers.Choice.{Choice}
 use Rattle.script.specs.declared.numbers.Choice.the-variants.{Made, Neither}
 use Rattle.script.specs.declared.numbers.Action.{Action}
 use Rattle.script.specs.declared.numbers.Action.the-variants.{Of, NoAction}
 use Rattle.script.proofs.Fixed.{Fixed, its-length, hex-fixed, either-fixed, operation-fixed}
-use Rattle.script.proofs.Lines.{told}
-use Rattle.script.proofs.Places.{some-there, starts-begin, starts-field, starts-next}
+use Rattle.script.proofs.Told.{told}
+use Rattle.script.proofs.Places.{some-there, starts-begin, starts-field, starts-next, other-count}
 
 -- ---- what reads is not what does not
 
@@ -50,9 +49,18 @@ abbrev isRights : Rights → Bool
 isRights (Are s p) = true
 isRights NoRights = false
 
-abbrev isTarget : Target → Bool
-isTarget (At g o w t) = true
-isTarget NoTarget = false
+abbrev isDecimal : Decimal → Bool
+isDecimal (Till n e) = true
+isDecimal NoDecimal = false
+
+-- the parts of one that reads
+abbrev valueIn : Decimal → ℕ
+valueIn (Till n e) = n
+valueIn NoDecimal = 0
+
+abbrev endIn : Decimal → ℕ
+endIn (Till n e) = e
+endIn NoDecimal = 0
 
 pub either-way {ℓ} : {A : Type ℓ} (t : Bool) (a : A) → a ≡ cond t a a
 either-way true a = refl
@@ -71,9 +79,9 @@ module _ {line : List ℕ} {fs : List (List ℕ)} {k p : ℕ} (s : Starts line f
       let e = its-length f line p (λ q. h (ap read (sym (starts-field s)) ∙ q)) in
       rw e at (starts-next s (some-there line p (omega (arith, f .some))))
 
-  pub hex-next : {v : ℕ} → hexOf (fieldAt fs k) ≡ Value v → Starts line fs (suc k) (p + hexStep)
+  pub hex-next : {v : ℕ} → hexOf (fieldAt fs k) ≡ Value v → Starts line fs (suc k) (p + 9)
   hex-next e =
-      let q : p + hexStep ≡ suc (p + 8) = omega arith in
+      let q : p + 9 ≡ suc (p + 8) = omega arith in
       rw q (fixed-next hex-fixed (λ b. true≢false (ap isNumber (sym e ∙ b))))
 
   pub either-next : (this that : ℕ) → tab < this → tab < that → {t : Bool} → eitherOf this that (fieldAt fs k) ≡ Made t
@@ -87,34 +95,35 @@ module _ {line : List ℕ} {fs : List (List ℕ)} {k p : ℕ} (s : Starts line f
       let q : p + 2 ≡ suc (p + 1) = omega arith in
       rw q (fixed-next operation-fixed (λ b. true≢false (ap isAction (sym e ∙ b))))
 
-  pub decimal-next : {v : ℕ} (end : ℕ) → end ≡ endFrom line p → decimalOf (fieldAt fs k) ≡ Value v → Starts line fs (suc k) (end + 1)
+  pub decimal-none : {r : Decimal} → r ≡ decimalAt line p → r ≡ NoDecimal → decimalOf (fieldAt fs k) ≡ NoNumber
+  unfolding decimalAt
+  decimal-none q e = go (decimalOf (fieldFrom line p)) (ap decimalOf (starts-field s)) (told q e)
+    where
+      go : (n : Number) → n ≡ decimalOf (fieldAt fs k) → (numberOr NoDecimal n λ v. Till v (endFrom line p)) ≡ NoDecimal
+          → decimalOf (fieldAt fs k) ≡ NoNumber
+      go NoNumber h u = sym h
+      go (Value n) h u = absurd (true≢false (ap isDecimal u))
+
+  decimal-is : {r : Decimal} {v e : ℕ} → r ≡ decimalAt line p → r ≡ Till v e → (decimalOf (fieldFrom line p) ≡ Value v) × (endFrom line p ≡ e)
+  unfolding decimalAt
+  decimal-is {v = v} {e = e} q u = go (decimalOf (fieldFrom line p)) refl (told q u)
+    where
+      go : (n : Number) → decimalOf (fieldFrom line p) ≡ n → (numberOr NoDecimal n λ v. Till v (endFrom line p)) ≡ Till v e
+          → (decimalOf (fieldFrom line p) ≡ Value v) × (endFrom line p ≡ e)
+      go NoNumber h u = absurd (false≢true (ap isDecimal u))
+      go (Value n) h u = (h ∙ ap Value (ap valueIn u), ap endIn u)
+
+  pub decimal-read : {r : Decimal} {v e : ℕ} → r ≡ decimalAt line p → r ≡ Till v e → decimalOf (fieldAt fs k) ≡ Value v
+  decimal-read q u = ap decimalOf (sym (starts-field s)) ∙ decimal-is q u .0
+
+  pub decimal-next : {r : Decimal} {v e : ℕ} → r ≡ decimalAt line p → r ≡ Till v e → Starts line fs (suc k) (e + 1)
   unfolding decimalOf
-  decimal-next {v = v} end q e = go (fieldFrom line p) refl (ap decimalOf (starts-field s) ∙ e)
+  decimal-next {e = e} q u = go (fieldFrom line p) refl (decimal-is q u)
     where
-      go : (f : List ℕ) → fieldFrom line p ≡ f → decimalOf f ≡ Value v → Starts line fs (suc k) (end + 1)
-      go [] h u = absurd (false≢true (ap isNumber u))
-      go (b ∷ f) h u =
-          rw (add-one, q) (starts-next s (some-there line p (omega (arith, ap length h))))
-
-  -- a word that is not empty
-  pub word-next : (word : List ℕ) (end : ℕ) → 0 < length word → end ≡ endFrom line p → same (fieldFrom line p) word ≡ true
-      → Starts line fs (suc k) (end + 1)
-  unfolding same
-  word-next [] end h q e = absurd (omega arith)
-  word-next (b ∷ word) end h q e = go (fieldFrom line p) refl e
-    where
-      go : (f : List ℕ) → fieldFrom line p ≡ f → same f (b ∷ word) ≡ true → Starts line fs (suc k) (end + 1)
-      go [] l u = absurd (false≢true u)
-      go (c ∷ f) l u = rw (add-one, q) (starts-next s (some-there line p (omega (arith, ap length l))))
-
--- the keyword is the first field
-pub first-word : (line : List ℕ) → fieldFrom line 0 ≡ fieldAt (fieldsOf line) 0
-unfolding restAt
-first-word line = refl
-
-pub first-next : (line : List ℕ) (end : ℕ) → end ≡ endFrom line 0 → Starts line (fieldsOf line) 1 (end + 1)
-unfolding restAt
-first-next line end q = rw (add-one, q) (starts-next (starts-begin line 0 (omega arith)) (omega arith))
+      go : {v : ℕ} (f : List ℕ) → fieldFrom line p ≡ f → (decimalOf (fieldFrom line p) ≡ Value v) × (endFrom line p ≡ e)
+          → Starts line fs (suc k) (e + 1)
+      go [] h d = absurd (false≢true (ap isNumber (ap decimalOf (sym h) ∙ d .0)))
+      go (b ∷ f) h d = rw (add-one, sym (d .1)) (starts-next s (some-there line p (omega (arith, ap length h))))
 
 -- ---- several fields
 
@@ -150,42 +159,21 @@ module _ {line : List ℕ} {fs : List (List ℕ)} {k p : ℕ} (s : Starts line f
   request-there b =
       rw (counts-there 5, starts-field s, fields-there 1, fields-there 2, rights-on 3)
 
-  pub target-there : targetFields (restAt p line) 0 ≡ targetFields fs k
-  unfolding targetFields
-  target-there = rw (starts-field s, fields-there 1, fields-there 2, fields-there 3)
-
-  -- behind guard offset width r/w
-  pub target-next : {g : GuardNumber} {o w : ℕ} {t : Bool} (stop end : ℕ) → stop ≡ endFrom line p → end ≡ endFrom line (stop + 1 + hexStep)
-      → targetFields fs k ≡ At g o w t → Starts line fs (k + 4) (end + 1 + 2)
-  unfolding targetFields
-  target-next {g = g} {o = o} {w = w} {t = t} stop end q q′ e =
-      go (decimalOf (fieldAt fs k)) refl (hexOf (fieldAt fs (k + 1))) refl (decimalOf (fieldAt fs (k + 2))) refl (writeOf (fieldAt fs (k + 3))) refl
-      e
-    where
-      go : (a : Number) → decimalOf (fieldAt fs k) ≡ a → (b : Number) → hexOf (fieldAt fs (k + 1)) ≡ b
-          → (c : Number) → decimalOf (fieldAt fs (k + 2)) ≡ c → (d : Choice) → writeOf (fieldAt fs (k + 3)) ≡ d
-          → (numberOr NoTarget a λ guard.
-          numberOr NoTarget b λ offset.
-          numberOr NoTarget c λ width.
-          choiceOr NoTarget d λ write.
-          At (record { 0 = guard }) offset width write)
-          ≡ At g o w t
-          → Starts line fs (k + 4) (end + 1 + 2)
-      go (Value a) x (Value b) y (Value c) z (Made d) v u =
-          let e1 : k + 1 ≡ suc k = omega arith in
-          let e2 : k + 2 ≡ suc (suc k) = omega arith in
-          let e3 : k + 3 ≡ suc (suc (suc k)) = omega arith in
-          let e4 : k + 4 ≡ suc (suc (suc (suc k))) = omega arith in
-          let s1 = decimal-next s stop q x in
-          let s2 = hex-next s1 (rw e1 at y) in
-          let s3 = decimal-next s2 end q′ (rw e2 at z) in
-          rw e4 (either-next s3 (code "w") (code "r") (lit< tt) (lit< tt) (rw e3 at v))
-      go NoNumber x b y c z d v u = absurd (false≢true (ap isTarget u))
-      go (Value a) x NoNumber y c z d v u = absurd (false≢true (ap isTarget u))
-      go (Value a) x (Value b) y NoNumber z d v u = absurd (false≢true (ap isTarget u))
-      go (Value a) x (Value b) y (Value c) z Neither v u = absurd (false≢true (ap isTarget u))
-
 -- ---- the rights that end a line
+
+-- they end three bytes after where they start
+pub rights-length : (line : List ℕ) (p : ℕ) → p ≤ suc (length line) → (length line ≡ p + 2 + 1 → ⊥) → NoRights ≡ lastRights (restAt p line)
+unfolding lastRights rightsFields
+rights-length line p h k =
+    go (eitherOf (code "s") (code "n") (fieldAt (restAt p line) 0)) refl (eitherOf (code "p") (code "u") (fieldAt (restAt p line) 1)) refl
+  where
+    go : (a : Choice) → eitherOf (code "s") (code "n") (fieldAt (restAt p line) 0) ≡ a
+        → (b : Choice) → eitherOf (code "p") (code "u") (fieldAt (restAt p line) 1) ≡ b → NoRights ≡ lastRights (restAt p line)
+    go Neither e b f = rw e (either-way (eqb (length (restAt p line)) 2) NoRights)
+    go (Made a) e Neither f = rw (e, f) (either-way (eqb (length (restAt p line)) 2) NoRights)
+    go (Made a) e (Made b) f =
+        let s = either-next (either-next (starts-begin line p h) (code "s") (code "n") (lit< tt) (lit< tt) e) (code "p") (code "u") (lit< tt) (lit< tt) f in
+        rw (other-count s (λ q. k (omega (arith, q))))
 
 pub no-rights : (t : Bool) (r : Rights) → cond t r NoRights ≡ NoRights → (t ≡ false) ⊎ (r ≡ NoRights)
 no-rights true r e = inr e

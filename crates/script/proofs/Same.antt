@@ -1,19 +1,18 @@
 -- Bytes compared one by one.
-use mathlib.Core.Bool.{Bool, true, false, _&&_}
+use Prim.Native.Char.{code}
+use mathlib.Core.Bool.{Bool, true, false, _&&_, _||_, and-false, cond}
 use mathlib.Core.List.{List, [], _∷_}
-use mathlib.Core.Path.{_≡_, refl, ap, _∙_}
+use mathlib.Core.Path.{_≡_, refl, ap}
 use Prim.Native.Nat.{ℕ, suc, _+_, _≤_, _<_}
 use native.Mathlib.Numerals.{add-one}
-use native.Mathlib.Omega.{arith}
-use borrow.Author.Tests.{eq-eqb, ne-eqb}
+use borrow.Author.Tests.{ne-eqb}
 use lib.Dec.{eqb}
-use lib.ListN.{length, getD, drop, drop-of-length-le}
+use lib.ListN.{length, getD, take, drop, drop-of-length-le}
 use lib.Seq.{drop-cons}
 use Rattle.script.specs.Fields.{same}
-
-and-false : (t : Bool) → (t && false) ≡ false
-and-false true = refl
-and-false false = refl
+use Rattle.script.specs.Numbers.{eitherOf, operationOf}
+use Rattle.script.specs.declared.numbers.Choice.the-variants.{Made, Neither}
+use Rattle.script.specs.declared.numbers.Action.the-variants.{NoAction}
 
 pub same-unequal : (s t : List ℕ) → (length s ≡ length t → ⊥) → same s t ≡ false
 unfolding same
@@ -34,21 +33,21 @@ same-end s t i h h′ = rw (drop-of-length-le s h, drop-of-length-le t h′)
 
 -- ---- a single letter
 
-and-true : (t : Bool) → (t && true) ≡ t
-and-true true = refl
-and-true false = refl
-
-same-letter : (s : List ℕ) (b : ℕ) → length s ≡ 1 → same s (b ∷ []) ≡ eqb (getD s 0 0) b
-unfolding same
-same-letter [] b h = absurd (omega arith)
-same-letter (a ∷ []) b h = and-true (eqb a b)
-same-letter (a ∷ c ∷ s) b h = absurd (omega arith)
-
-pub is-letter : (s : List ℕ) (b : ℕ) → length s ≡ 1 → getD s 0 0 ≡ b → same s (b ∷ []) ≡ true
-is-letter s b h e = same-letter s b h ∙ eq-eqb (getD s 0 0) b e
-
-pub not-letter : (s : List ℕ) (b : ℕ) → length s ≡ 1 → (getD s 0 0 ≡ b → ⊥) → same s (b ∷ []) ≡ false
-not-letter s b h e = same-letter s b h ∙ ne-eqb (getD s 0 0) b e
-
 pub no-letter : (s : List ℕ) (b : ℕ) → (length s ≡ 1 → ⊥) → same s (b ∷ []) ≡ false
 no-letter s b h = same-unequal s (b ∷ []) h
+
+pub one-byte : (line : List ℕ) (p : ℕ) → p < length line → take 1 (drop p line) ≡ getD line p 0 ∷ []
+one-byte line p h = rw (drop-cons line p 0 h)
+
+pub either-byte : (this that b : ℕ) → cond (eqb b this || eqb b that) (Made (eqb b this)) Neither ≡ eitherOf this that (b ∷ [])
+unfolding eitherOf same
+either-byte this that b = go (eqb b this) (eqb b that)
+  where
+    go : (t u : Bool) → cond (t || u) (Made t) Neither ≡ cond (t && true) (Made true) (cond (u && true) (Made false) Neither)
+    go true u = refl
+    go false true = refl
+    go false false = refl
+
+pub other-byte : (b : ℕ) → (b ≡ code "r" → ⊥) → (b ≡ code "w" → ⊥) → (b ≡ code "x" → ⊥) → NoAction ≡ operationOf (b ∷ [])
+unfolding operationOf same
+other-byte b r w x = rw (ne-eqb b (code "r") r, ne-eqb b (code "w") w, ne-eqb b (code "x") x)

@@ -17,8 +17,6 @@ use Rattle.script.specs.declared.command.Command.{Command}
 use Rattle.script.specs.declared.command.Command.the-variants.{Event, Map, Bad}
 use Rattle.script.specs.declared.events.Rights.{Rights}
 use Rattle.script.specs.declared.events.Rights.the-variants.{Are, NoRights}
-use Rattle.script.specs.declared.events.Target.{Target}
-use Rattle.script.specs.declared.events.Target.the-variants.{At, NoTarget}
 use Rattle.script.specs.declared.numbers.Number.{Number}
 use Rattle.script.specs.declared.numbers.Number.the-variants.{Value, NoNumber}
 use Rattle.script.specs.declared.numbers.Choice.{Choice}
@@ -44,10 +42,6 @@ abbrev pub rightsOr {ℓ} : {A : Type ℓ} → A → Rights → (Bool → Bool �
 rightsOr bad (Are secure privileged) rest = rest secure privileged
 rightsOr bad NoRights rest = bad
 
-abbrev pub targetOr {ℓ} : {A : Type ℓ} → A → Target → (GuardNumber → ℕ → ℕ → Bool → A) → A
-targetOr bad (At guard offset width write) rest = rest guard offset width write
-targetOr bad NoTarget rest = bad
-
 -- ---- fields that several lines have; fs are the line's fields
 
 -- r/w
@@ -61,14 +55,14 @@ rightsFields fs k =
     choiceOr NoRights (eitherOf (code "p") (code "u") (fieldAt fs (k + 1))) λ privileged.
     Are secure privileged
 
--- guard offset width r/w, from field k on
-unfoldable pub targetFields : List (List ℕ) → ℕ → Target
-targetFields fs k =
-    numberOr NoTarget (decimalOf (fieldAt fs k)) λ guard.
-    numberOr NoTarget (hexOf (fieldAt fs (k + 1))) λ offset.
-    numberOr NoTarget (decimalOf (fieldAt fs (k + 2))) λ width.
-    choiceOr NoTarget (writeOf (fieldAt fs (k + 3))) λ write.
-    At (record { 0 = guard }) offset width write
+-- guard offset width r/w, from field k on, and what follows them
+unfoldable pub targetFields : List (List ℕ) → ℕ → (GuardNumber → ℕ → ℕ → Bool → Command) → Command
+targetFields fs k rest =
+    numberOr Bad (decimalOf (fieldAt fs k)) λ guard.
+    numberOr Bad (hexOf (fieldAt fs (k + 1))) λ offset.
+    numberOr Bad (decimalOf (fieldAt fs (k + 2))) λ width.
+    choiceOr Bad (writeOf (fieldAt fs (k + 3))) λ write.
+    rest (record { 0 = guard }) offset width write
 
 -- ---- the lines; field fs 0 is the keyword
 
@@ -126,7 +120,7 @@ peripheralLine fs =
 unfoldable pub memoryLine : List (List ℕ) → Command
 memoryLine fs =
     exactly 8 fs
-    (targetOr Bad (targetFields fs 1) λ guard offset width write.
+    (targetFields fs 1 λ guard offset width write.
     numberOr Bad (decimalOf (fieldAt fs 5)) λ cid.
     rightsOr Bad (rightsFields fs 6) λ secure privileged.
     Event
@@ -143,7 +137,7 @@ unfoldable pub masterLine : List (List ℕ) → Command
 masterLine fs =
     exactly 6 fs
     (numberOr Bad (decimalOf (fieldAt fs 1)) λ master.
-    targetOr Bad (targetFields fs 2) λ guard offset width write.
+    targetFields fs 2 λ guard offset width write.
     Event
     (Master
     (record {

@@ -3,10 +3,8 @@ use crate::events::memory;
 use crate::events::peripheral;
 use crate::events::register;
 use crate::fields::LINE_MOST;
-use crate::fields::field_at;
-use crate::fields::field_end;
-use crate::fields::is;
-use crate::numbers::Number;
+use crate::fields::begins;
+use crate::numbers::Decimal;
 use crate::numbers::decimal_at;
 use device::Event;
 use risaf::GuardNumber;
@@ -14,6 +12,12 @@ ghost use mathlib.Core.Path.{_≡_};
 ghost use Rattle.script.specs.Fields.{fieldsOf};
 ghost use Rattle.script.specs.Places.{Starts};
 ghost use Rattle.script.specs.Command.{commandIn, commandOf, mapLine};
+
+// A keyword that fields follow, and the tab behind it.
+const KEYWORD_STEP: usize = 4;
+
+// The bytes of `reset`.
+const RESET_LENGTH: usize = 5;
 
 // What a line asks for.
 pub enum Command {
@@ -27,8 +31,7 @@ fn map(line: &[u8], from: usize) -> Command
     requires { ⌜ Starts (now line) (fieldsOf (now line)) 1 from ⌝ }
     ensures { λ r. ⌜ r ≡ mapLine (fieldsOf (now (line .entry))) ⌝ }
 {
-    let end = field_end(line, from);
-    let Number::Value(guard) = decimal_at(line, from, end) else {
+    let Decimal::Till(guard, end) = decimal_at(line, from) else {
         return Command::Bad;
     };
     if line.len() != end {
@@ -41,30 +44,23 @@ fn map(line: &[u8], from: usize) -> Command
 fn by_keyword(line: &[u8]) -> Command
     ensures { λ r. ⌜ r ≡ commandIn (fieldsOf (now (line .entry))) ⌝ }
 {
-    let end = field_end(line, 0);
-    let word = field_at(line, 0, end);
-    let next = end + 1;
-    if is(word, b"reset") {
-        return if line.len() == end {
-            Command::Event(Event::Reset)
-        } else {
-            Command::Bad
-        };
+    if begins(line, 0, b"mem\t") {
+        return memory(line, KEYWORD_STEP);
     }
-    if is(word, b"reg") {
-        return register(line, next);
+    if begins(line, 0, b"reg\t") {
+        return register(line, KEYWORD_STEP);
     }
-    if is(word, b"per") {
-        return peripheral(line, next);
+    if begins(line, 0, b"per\t") {
+        return peripheral(line, KEYWORD_STEP);
     }
-    if is(word, b"mem") {
-        return memory(line, next);
+    if begins(line, 0, b"dma\t") {
+        return master(line, KEYWORD_STEP);
     }
-    if is(word, b"dma") {
-        return master(line, next);
+    if begins(line, 0, b"map\t") {
+        return map(line, KEYWORD_STEP);
     }
-    if is(word, b"map") {
-        return map(line, next);
+    if begins(line, 0, b"reset") & (line.len() == RESET_LENGTH) {
+        return Command::Event(Event::Reset);
     }
     Command::Bad
 }

@@ -1,9 +1,8 @@
 use crate::command::Command;
-use crate::fields::field_at;
-use crate::fields::field_end;
-use crate::fields::is;
+use crate::fields::begins;
 use crate::numbers::Action;
 use crate::numbers::Choice;
+use crate::numbers::Decimal;
 use crate::numbers::HEX_STEP;
 use crate::numbers::LETTER_STEP;
 use crate::numbers::Number;
@@ -24,22 +23,29 @@ use rifsc::MasterNumber;
 use rifsc::PeripheralNumber;
 use risaf::GuardNumber;
 ghost use mathlib.Core.Path.{_≡_};
-ghost use Prim.Native.Nat.{_+_, _≤_, suc};
+ghost use Prim.Native.Nat.{_≤_, suc};
 ghost use lib.ListN.{length};
 ghost use Rattle.script.specs.Fields.{fieldsOf};
-ghost use Rattle.script.specs.Places.{Starts, endFrom, hexStep, lastRights, restAt};
-ghost use Rattle.script.specs.Command.{masterLine, memoryLine, peripheralLine, registerLine, requestFields, targetFields};
+ghost use Rattle.script.specs.Places.{Starts, lastRights, restAt};
+ghost use Rattle.script.specs.Blocks.{blockLine, blockPlace};
+ghost use Rattle.script.specs.Command.{masterLine, memoryLine, peripheralLine, registerLine, requestFields};
+
+// `iac` and the tab behind it.
+const IAC_STEP: usize = 4;
+
+// `rifsc` or `risaf` and the tab behind it.
+const RIF_STEP: usize = 6;
 
 // The reading of s/n p/u: secure, privileged.
 enum Rights {
-    Are(bool, bool),
     NoRights,
+    Are(bool, bool),
 }
 
-// The reading of guard offset width r/w.
-enum Target {
-    At(GuardNumber, u32, u32, bool),
-    NoTarget,
+// The reading of a block: which it is, and where the next field starts.
+enum BlockField {
+    NoBlock,
+    Is(Block, usize),
 }
 
 // s/n p/u from `from` to the line's end
@@ -47,37 +53,17 @@ fn last_rights(line: &[u8], from: usize) -> Rights
     requires { ⌜ from ≤ suc (length (now line)) ⌝ }
     ensures { λ r. ⌜ r ≡ lastRights (restAt from (now (line .entry))) ⌝ }
 {
-    let Choice::Made(secure) = either_at(line, from, b's', b'n') else {
-        return Rights::NoRights;
-    };
     let second = from + LETTER_STEP;
-    let Choice::Made(privileged) = either_at(line, second, b'p', b'u') else {
-        return Rights::NoRights;
-    };
     if line.len() != second + 1 {
         return Rights::NoRights;
     }
+    let Choice::Made(secure) = either_at(line, from, b's', b'n') else {
+        return Rights::NoRights;
+    };
+    let Choice::Made(privileged) = either_at(line, second, b'p', b'u') else {
+        return Rights::NoRights;
+    };
     Rights::Are(secure, privileged)
-}
-
-// guard offset width r/w from `from` on: the guard ends at `stop`, and the width, if 8 digits stand between, at `end`
-fn target_at(line: &[u8], from: usize, stop: usize, end: usize) -> Target
-    requires { ⌜ (from ≤ suc (length (now line))) × (stop ≡ endFrom (now line) from) × (end ≡ endFrom (now line) (stop + 1 + hexStep)) ⌝ }
-    ensures { λ r. ⌜ r ≡ targetFields (restAt from (now (line .entry))) 0 ⌝ }
-{
-    let Number::Value(guard) = decimal_at(line, from, stop) else {
-        return Target::NoTarget;
-    };
-    let Number::Value(offset) = hex_at(line, stop + 1) else {
-        return Target::NoTarget;
-    };
-    let Number::Value(width) = decimal_at(line, stop + 1 + HEX_STEP, end) else {
-        return Target::NoTarget;
-    };
-    let Choice::Made(write) = either_at(line, end + 1, b'w', b'r') else {
-        return Target::NoTarget;
-    };
-    Target::At(GuardNumber(guard), offset, width, write)
 }
 
 // offset r/w data s/n p/u from `from` to the line's end
@@ -111,6 +97,26 @@ fn request(line: &[u8], from: usize, block: Block) -> Command
     }))
 }
 
+// The block of a register line, of `risaf` with the field of its number.
+fn block_at(line: &[u8], from: usize) -> BlockField
+    requires { ⌜ Starts (now line) (fieldsOf (now line)) 1 from ⌝ }
+    ensures { λ r. ⌜ (registerLine (fieldsOf (now (line .entry))) ≡ blockLine r (now (line .entry))) × (blockPlace r ≤ suc (length (now (line .entry)))) ⌝ }
+{
+    if begins(line, from, b"rifsc\t") {
+        return BlockField::Is(Block::Rifsc, from + RIF_STEP);
+    }
+    if begins(line, from, b"iac\t") {
+        return BlockField::Is(Block::Iac, from + IAC_STEP);
+    }
+    if !begins(line, from, b"risaf\t") {
+        return BlockField::NoBlock;
+    }
+    let Decimal::Till(guard, end) = decimal_at(line, from + RIF_STEP) else {
+        return BlockField::NoBlock;
+    };
+    BlockField::Is(Block::Risaf(GuardNumber(guard)), end + 1)
+}
+
 // ---- the lines, each from the field behind its keyword on
 
 // `reg` block offset r/w data s/n p/u
@@ -118,23 +124,10 @@ pub(crate) fn register(line: &[u8], from: usize) -> Command
     requires { ⌜ Starts (now line) (fieldsOf (now line)) 1 from ⌝ }
     ensures { λ r. ⌜ r ≡ registerLine (fieldsOf (now (line .entry))) ⌝ }
 {
-    let block_end = field_end(line, from);
-    let block = field_at(line, from, block_end);
-    let next = block_end + 1;
-    if is(block, b"rifsc") {
-        return request(line, next, Block::Rifsc);
-    }
-    if is(block, b"iac") {
-        return request(line, next, Block::Iac);
-    }
-    if !is(block, b"risaf") {
-        return Command::Bad;
-    }
-    let guard_end = field_end(line, next);
-    let Number::Value(guard) = decimal_at(line, next, guard_end) else {
+    let BlockField::Is(block, next) = block_at(line, from) else {
         return Command::Bad;
     };
-    request(line, guard_end + 1, Block::Risaf(GuardNumber(guard)))
+    request(line, next, block)
 }
 
 // `per` p r/w/x s/n p/u
@@ -142,8 +135,7 @@ pub(crate) fn peripheral(line: &[u8], from: usize) -> Command
     requires { ⌜ Starts (now line) (fieldsOf (now line)) 1 from ⌝ }
     ensures { λ r. ⌜ r ≡ peripheralLine (fieldsOf (now (line .entry))) ⌝ }
 {
-    let end = field_end(line, from);
-    let Number::Value(p) = decimal_at(line, from, end) else {
+    let Decimal::Till(p, end) = decimal_at(line, from) else {
         return Command::Bad;
     };
     let Action::Of(operation) = operation_at(line, end + 1) else {
@@ -165,21 +157,26 @@ pub(crate) fn memory(line: &[u8], from: usize) -> Command
     requires { ⌜ Starts (now line) (fieldsOf (now line)) 1 from ⌝ }
     ensures { λ r. ⌜ r ≡ memoryLine (fieldsOf (now (line .entry))) ⌝ }
 {
-    let guard_end = field_end(line, from);
-    let width_end = field_end(line, guard_end + 1 + HEX_STEP);
-    let Target::At(guard, offset, width, write) = target_at(line, from, guard_end, width_end) else {
+    let Decimal::Till(guard, guard_end) = decimal_at(line, from) else {
         return Command::Bad;
     };
-    let fifth = width_end + 1 + LETTER_STEP;
-    let cid_end = field_end(line, fifth);
-    let Number::Value(cid) = decimal_at(line, fifth, cid_end) else {
+    let Number::Value(offset) = hex_at(line, guard_end + 1) else {
+        return Command::Bad;
+    };
+    let Decimal::Till(width, width_end) = decimal_at(line, guard_end + 1 + HEX_STEP) else {
+        return Command::Bad;
+    };
+    let Choice::Made(write) = either_at(line, width_end + 1, b'w', b'r') else {
+        return Command::Bad;
+    };
+    let Decimal::Till(cid, cid_end) = decimal_at(line, width_end + 1 + LETTER_STEP) else {
         return Command::Bad;
     };
     let Rights::Are(secure, privileged) = last_rights(line, cid_end + 1) else {
         return Command::Bad;
     };
     Command::Event(Event::Memory(MemoryAccess {
-        guard,
+        guard: GuardNumber(guard),
         offset,
         width,
         kind: Kind {
@@ -196,15 +193,19 @@ pub(crate) fn master(line: &[u8], from: usize) -> Command
     requires { ⌜ Starts (now line) (fieldsOf (now line)) 1 from ⌝ }
     ensures { λ r. ⌜ r ≡ masterLine (fieldsOf (now (line .entry))) ⌝ }
 {
-    let master_end = field_end(line, from);
-    let Number::Value(master) = decimal_at(line, from, master_end) else {
+    let Decimal::Till(master, master_end) = decimal_at(line, from) else {
         return Command::Bad;
     };
-    let second = master_end + 1;
-    let guard_end = field_end(line, second);
-    let width_end = field_end(line, guard_end + 1 + HEX_STEP);
-    let Target::At(guard, offset, width, write) = target_at(line, second, guard_end, width_end)
-    else {
+    let Decimal::Till(guard, guard_end) = decimal_at(line, master_end + 1) else {
+        return Command::Bad;
+    };
+    let Number::Value(offset) = hex_at(line, guard_end + 1) else {
+        return Command::Bad;
+    };
+    let Decimal::Till(width, width_end) = decimal_at(line, guard_end + 1 + HEX_STEP) else {
+        return Command::Bad;
+    };
+    let Choice::Made(write) = either_at(line, width_end + 1, b'w', b'r') else {
         return Command::Bad;
     };
     if line.len() != width_end + LETTER_STEP {
@@ -212,7 +213,7 @@ pub(crate) fn master(line: &[u8], from: usize) -> Command
     }
     Command::Event(Event::Master(MasterAccess {
         master: MasterNumber(master),
-        guard,
+        guard: GuardNumber(guard),
         offset,
         width,
         write,

@@ -1,23 +1,13 @@
 ghost use mathlib.Core.Path.{_≡_};
-ghost use Rattle.script.specs.Fields.{same};
-ghost use Rattle.script.specs.Places.{endFrom, endsAt, fieldFrom};
+ghost use Prim.Native.Nat.{_+_, _≤_, suc};
+ghost use lib.ListN.{length};
+ghost use Rattle.script.specs.Places.{beginsAt, endsAt, fourAt};
 
 // The most bytes of a line.
 pub(crate) const LINE_MOST: usize = 64;
 
-// Where the field that starts at `from` ends: at a tab, or at the line's end.
-pub(crate) fn field_end(line: &[u8], from: usize) -> usize
-    ensures { λ r. ⌜ r ≡ endFrom (now (line .entry)) from ⌝ }
-{
-    let mut i = from;
-    while i < line.len() {
-        if line[i] == b'\t' {
-            return i;
-        }
-        i += 1;
-    }
-    i
-}
+// The bytes that `four` takes.
+const FOUR: usize = 4;
 
 // Whether a field may end at that place.
 pub(crate) fn ends(line: &[u8], place: usize) -> bool
@@ -29,27 +19,31 @@ pub(crate) fn ends(line: &[u8], place: usize) -> bool
     place == line.len()
 }
 
-// The field from one place to the other, as a part of the line; past the line's end it is empty.
-pub(crate) fn field_at<'a>(line: &'a [u8], from: usize, end: usize) -> &'a [u8]
-    requires { ⌜ end ≡ endFrom (now line) from ⌝ }
-    ensures { λ r. ⌜ now r ≡ fieldFrom (now (line .entry)) from ⌝ }
+// Four bytes as one number, the first the highest: the machine loads them at once.
+pub(crate) fn four(line: &[u8], from: usize) -> u32
+    requires { ⌜ from + 4 ≤ length (now line) ⌝ }
+    ensures { λ r. ⌜ r ≡ fourAt (now (line .entry)) from ⌝ }
 {
-    if line.len() < end {
-        return &line[..0];
-    }
-    &line[from..end]
+    0x100_0000 * (line[from] as u32)
+        + 0x1_0000 * (line[from + 1] as u32)
+        + 0x100 * (line[from + 2] as u32)
+        + (line[from + 3] as u32)
 }
 
-// Whether a field is the keyword.
-pub(crate) fn is(s: &[u8], keyword: &[u8]) -> bool
-    ensures { λ r. ⌜ r ≡ same (now (s .entry)) (now (keyword .entry)) ⌝ }
+// Whether the bytes from `from` on begin with a keyword, which has four bytes or more.
+pub(crate) fn begins(line: &[u8], from: usize, keyword: &[u8]) -> bool
+    requires { ⌜ (from ≤ suc (length (now line))) × (4 ≤ length (now keyword)) × (length (now keyword) ≤ 8) ⌝ }
+    ensures { λ r. ⌜ r ≡ beginsAt (now (line .entry)) from (now (keyword .entry)) ⌝ }
 {
-    if s.len() != keyword.len() {
+    if line.len() < from + keyword.len() {
         return false;
     }
-    let mut i = 0;
-    while i < s.len() {
-        if s[i] != keyword[i] {
+    if four(line, from) != four(keyword, 0) {
+        return false;
+    }
+    let mut i = FOUR;
+    while i < keyword.len() {
+        if line[from + i] != keyword[i] {
             return false;
         }
         i += 1;

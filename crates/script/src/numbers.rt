@@ -1,13 +1,12 @@
 use crate::fields::ends;
-use crate::fields::field_at;
+use crate::fields::four;
 use device::Operation;
 ghost use mathlib.Core.Path.{_≡_};
-ghost use mathlib.Core.Bool.{true};
-ghost use Prim.Native.Nat.{_≤_, _<_, suc};
-ghost use lib.ListN.{length};
+ghost use Prim.Native.Nat.{_+_, _≤_, _<_, suc};
+ghost use lib.ListN.{drop, length, take};
 ghost use Rattle.script.specs.Fields.{tab};
-ghost use Rattle.script.specs.Places.{endFrom, fieldFrom};
-ghost use Rattle.script.specs.Numbers.{decimalOf, digit, eitherOf, hexOf, isHex, operationOf};
+ghost use Rattle.script.specs.Places.{decimalAt, fieldFrom};
+ghost use Rattle.script.specs.Numbers.{eitherOf, hexOf, isDecimal, operationOf};
 
 // The digits of a hexadecimal number.
 const HEX_DIGITS: usize = 8;
@@ -21,111 +20,66 @@ pub(crate) const LETTER_STEP: usize = 2;
 // The most that a decimal number may be.
 const NUMBER_MOST: u64 = 4294967295;
 
+// 1 in each of eight bytes.
+const EACH: u64 = 0x0101_0101_0101_0101;
+
+// All bits of the lower byte of each two, and of the lower two of each four.
+const LOWER_BYTES: u64 = 0x00ff_00ff_00ff_00ff;
+
+const LOWER_PAIRS: u64 = 0x0000_ffff_0000_ffff;
+
+// The first variant of each says that the field does not read: the compiler takes a test for the first as likely to fail, and leaves a call
+// that stands behind several such tests a call.
+
 // A field's reading as a number.
 pub(crate) enum Number {
-    Value(u32),
     NoNumber,
+    Value(u32),
+}
+
+// The reading of a decimal number: what it is, and where its field ends.
+pub(crate) enum Decimal {
+    NoDecimal,
+    Till(u32, usize),
 }
 
 // A field's reading as one of two letters.
 pub(crate) enum Choice {
-    Made(bool),
     Neither,
+    Made(bool),
 }
 
 // A field's reading as r, w or x.
 pub(crate) enum Action {
-    Of(Operation),
     NoAction,
+    Of(Operation),
 }
 
-// The value of a hexadecimal digit; of another byte it means nothing.
-fn hex_digit(b: u8) -> u32
-    ensures { λ r. ⌜ (r < 16) × (isHex b ≡ true → r ≡ digit b) ⌝ }
+// Eight hexadecimal digits, all at once: each byte of `text` is a character, and each of `digits` the digit that it stands for, if its
+// `letters` says rightly whether it is a letter. It does where the digit is below 16 and its own character is the one in `text`.
+fn hex(line: &[u8], from: usize) -> Number
+    requires { ⌜ from + 8 ≤ length (now line) ⌝ }
+    ensures { λ r. ⌜ r ≡ hexOf (take 8 (drop from (now (line .entry)))) ⌝ }
 {
-    ((b % 16 + 9 * (b / 64)) % 16) as u32
-}
-
-// Exactly 8 hexadecimal digits.
-fn hex(s: &[u8]) -> Number
-    ensures { λ r. ⌜ r ≡ hexOf (now (s .entry)) ⌝ }
-{
-    if s.len() != 8 {
+    let text = 0x1_0000_0000 * (four(line, from) as u64) + (four(line, from + 4) as u64);
+    let letters = (text & 64 * EACH) >> 6;
+    let digits = (text & 15 * EACH) + 9 * letters;
+    if (digits & 240 * EACH) != 0 {
         return Number::NoNumber;
     }
-    let mut n: u32 = 0;
-    let mut good = true;
-    let mut i = 0;
-    while i < 8 {
-        let b = s[i];
-        good = good & (((b'0' <= b) & (b <= b'9')) | ((b'a' <= b) & (b <= b'f')));
-        n = 16 * n + hex_digit(b);
-        i += 1;
-    }
-    if good {
-        Number::Value(n)
-    } else {
-        Number::NoNumber
-    }
-}
-
-// A decimal number without leading zeros.
-fn decimal(s: &[u8]) -> Number
-    ensures { λ r. ⌜ r ≡ decimalOf (now (s .entry)) ⌝ }
-{
-    if s.len() == 0 {
+    let tens = ((digits + 6 * EACH) & 16 * EACH) >> 4;
+    if digits + 48 * EACH + 39 * tens != text {
         return Number::NoNumber;
     }
-    if (s[0] == b'0') & (1 < s.len()) {
-        return Number::NoNumber;
-    }
-    let mut n: u64 = 0;
-    let mut i = 0;
-    while i < s.len() {
-        let b = s[i];
-        if !((b'0' <= b) & (b <= b'9')) {
-            return Number::NoNumber;
-        }
-        n = 10 * n + (b - b'0') as u64;
-        if NUMBER_MOST < n {
-            return Number::NoNumber;
-        }
-        i += 1;
-    }
-    Number::Value(n as u32)
+    let pairs = (digits + (digits >> 4)) & LOWER_BYTES;
+    let fours = (pairs + (pairs >> 8)) & LOWER_PAIRS;
+    Number::Value(((fours + (fours >> 16)) % 0x1_0000_0000) as u32)
 }
 
-// The one letter or the other.
-fn either(s: &[u8], this: u8, that: u8) -> Choice
-    ensures { λ r. ⌜ r ≡ eitherOf this that (now (s .entry)) ⌝ }
+fn is_decimal(b: u8) -> bool
+    ensures { λ r. ⌜ r ≡ isDecimal b ⌝ }
 {
-    if s.len() != 1 {
-        return Choice::Neither;
-    }
-    let b = s[0];
-    if b == this {
-        return Choice::Made(true);
-    }
-    if b == that {
-        Choice::Made(false)
-    } else {
-        Choice::Neither
-    }
-}
-
-// r, w or x.
-fn operation(s: &[u8]) -> Action
-    ensures { λ r. ⌜ r ≡ operationOf (now (s .entry)) ⌝ }
-{
-    if s.len() != 1 {
-        return Action::NoAction;
-    }
-    match s[0] {
-        b'r' => Action::Of(Operation::Read),
-        b'w' => Action::Of(Operation::Write),
-        b'x' => Action::Of(Operation::Fetch),
-        _ => Action::NoAction,
-    }
+    (b'0' <= b) & (b <= b'9')
 }
 
 // ---- the reading of the field that starts at `from`
@@ -134,38 +88,70 @@ pub(crate) fn hex_at(line: &[u8], from: usize) -> Number
     requires { ⌜ from ≤ suc (length (now line)) ⌝ }
     ensures { λ r. ⌜ r ≡ hexOf (fieldFrom (now (line .entry)) from) ⌝ }
 {
-    let end = from + HEX_DIGITS;
-    if !ends(line, end) {
+    if !ends(line, from + HEX_DIGITS) {
         return Number::NoNumber;
     }
-    hex(&line[from..end])
+    hex(line, from)
 }
 
-pub(crate) fn decimal_at(line: &[u8], from: usize, end: usize) -> Number
-    requires { ⌜ end ≡ endFrom (now line) from ⌝ }
-    ensures { λ r. ⌜ r ≡ decimalOf (fieldFrom (now (line .entry)) from) ⌝ }
+// A decimal number without leading zeros.
+pub(crate) fn decimal_at(line: &[u8], from: usize) -> Decimal
+    ensures { λ r. ⌜ r ≡ decimalAt (now (line .entry)) from ⌝ }
 {
-    decimal(field_at(line, from, end))
+    if line.len() <= from {
+        return Decimal::NoDecimal;
+    }
+    let first = line[from];
+    if !is_decimal(first) {
+        return Decimal::NoDecimal;
+    }
+    let mut n = (first - b'0') as u64;
+    let mut i = from + 1;
+    while i < line.len() {
+        let b = line[i];
+        if b == b'\t' {
+            return Decimal::Till(n as u32, i);
+        }
+        if (n == 0) | !is_decimal(b) {
+            return Decimal::NoDecimal;
+        }
+        n = 10 * n + (b - b'0') as u64;
+        if NUMBER_MOST < n {
+            return Decimal::NoDecimal;
+        }
+        i += 1;
+    }
+    Decimal::Till(n as u32, i)
 }
 
+// The one letter or the other.
 pub(crate) fn either_at(line: &[u8], from: usize, this: u8, that: u8) -> Choice
     requires { ⌜ (from ≤ suc (length (now line))) × (tab < this) × (tab < that) ⌝ }
     ensures { λ r. ⌜ r ≡ eitherOf this that (fieldFrom (now (line .entry)) from) ⌝ }
 {
-    let end = from + 1;
-    if !ends(line, end) {
+    if !ends(line, from + 1) {
         return Choice::Neither;
     }
-    either(&line[from..end], this, that)
+    let b = line[from];
+    if (b == this) | (b == that) {
+        Choice::Made(b == this)
+    } else {
+        Choice::Neither
+    }
 }
 
+// r, w or x.
 pub(crate) fn operation_at(line: &[u8], from: usize) -> Action
     requires { ⌜ from ≤ suc (length (now line)) ⌝ }
     ensures { λ r. ⌜ r ≡ operationOf (fieldFrom (now (line .entry)) from) ⌝ }
 {
-    let end = from + 1;
-    if !ends(line, end) {
+    if !ends(line, from + 1) {
         return Action::NoAction;
     }
-    operation(&line[from..end])
+    match line[from] {
+        b'r' => Action::Of(Operation::Read),
+        b'w' => Action::Of(Operation::Write),
+        b'x' => Action::Of(Operation::Fetch),
+        _ => Action::NoAction,
+    }
 }

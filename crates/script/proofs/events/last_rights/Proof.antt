@@ -10,10 +10,15 @@ use Rattle.script.specs.Command.{rightsFields}
 use Rattle.script.specs.Numbers.{eitherOf}
 use Rattle.script.specs.Places.{Starts, lastRights, restAt}
 use Rattle.script.specs.declared.events.Rights.the-variants.{NoRights}
-use Rattle.script.proofs.Places.{starts-begin, its-count, other-count}
-use Rattle.script.proofs.Readings.{there, either-next, either-way}
+use Rattle.script.proofs.Places.{starts-begin, its-count}
+use Rattle.script.proofs.Readings.{there, either-next, either-way, rights-length}
 use Rattle.script.proofs.events.last_rights.Statement.{statement}
 use Rattle.script.proofs.events.last_rights.Tie as tie
+
+returns : tie.Need-returns
+returns c =
+    let a = c .before .before in
+    rights-length _ (a .args .from) (a .pre) (c .if1 .taken)
 
 -- the line, and its fields from the place on
 abbrev line : tie.Start → List ℕ
@@ -26,7 +31,7 @@ first : (c : tie.Start) → Starts (line c) (fields c) 0 (c .args .from)
 first c = starts-begin (line c) (c .args .from) (c .pre)
 
 abbrev secure : tie.After-secure → tie.Start
-secure c = c .before .before .before .before
+secure c = c .before .before .before .before .before
 
 second : (c : tie.After-secure) → Starts (line (secure c)) (fields (secure c)) 1 (secure c .args .from + 2)
 second c =
@@ -44,16 +49,16 @@ third c =
     either-next s (code "p") (code "u") (lit< tt) (lit< tt)
     (there s (eitherOf (code "p") (code "u")) (c .before .before .either-at2 .ensures) (c .privileged .given .1))
 
-returns : tie.Need-returns
-unfolding lastRights rightsFields
-returns c =
-    let a = c .before .before .before .before in
-    rw (there (first a) (eitherOf (code "s") (code "n")) (c .before .before .either-at .ensures) (c .enum-told .given .1))
-    (either-way (eqb (length (fields a)) 2) NoRights)
-
 returns-2 : tie.Need-returns-2
 unfolding lastRights rightsFields
 returns-2 c =
+    let a = c .before .before .before .before .before in
+    rw (there (first a) (eitherOf (code "s") (code "n")) (c .before .before .either-at .ensures) (c .enum-told .given .1))
+    (either-way (eqb (length (fields a)) 2) NoRights)
+
+returns-3 : tie.Need-returns-3
+unfolding lastRights rightsFields
+returns-3 c =
     let one = c .before .before .before .before in
     rw (
       there (first (secure one)) (eitherOf (code "s") (code "n")) (one .before .before .either-at .ensures) (one .secure .given .1),
@@ -61,18 +66,13 @@ returns-2 c =
     )
     (either-way (eqb (length (fields (secure one))) 2) NoRights)
 
-returns-3 : tie.Need-returns-3
-unfolding lastRights
-returns-3 c =
-    rw (other-count (third (c .before .before)) (λ e. c .if1 .taken (omega arith)))
-
 returns-4 : tie.Need-returns-4
 unfolding lastRights rightsFields
 returns-4 c =
-    let two = c .before .before in
+    let two = c .before in
     let one = privileged two in
     rw (
-      its-count (third two) (omega arith),
+      its-count (third two) (omega (arith, one .before .before .before .if1 .left)),
       there (first (secure one)) (eitherOf (code "s") (code "n")) (one .before .before .either-at .ensures) (one .secure .given .1),
       there (second one) (eitherOf (code "p") (code "u")) (two .before .before .either-at2 .ensures) (two .privileged .given .1),
     )
@@ -80,6 +80,5 @@ returns-4 c =
 pub last-rights-spec : {M : Type 1} → statement M
 last-rights-spec =
     tie.close
-    (tie.spec (λ c κs. (c .before .pre, lit< tt, lit< tt)) (λ c. search needs) (λ c. search needs) returns (λ c. search needs)
-    (λ c κs. (second (c .before) .within, lit< tt, lit< tt)) (λ c. search needs) (λ c. search needs) returns-2 (λ c. search needs)
-    returns-3 returns-4)
+    (tie.spec (λ c. search needs) (λ c. search needs) returns (λ c κs. (c .before .before .pre, lit< tt, lit< tt)) (λ c. search needs) (λ c. search needs)
+    returns-2 (λ c κs. (second (c .before) .within, lit< tt, lit< tt)) (λ c. search needs) (λ c. search needs) returns-3 returns-4)

@@ -10,12 +10,12 @@ use lib.Dec.{eqb}
 use lib.ListN.{length}
 use Rattle.script.specs.Command.{peripheralLine, rightsFields}
 use Rattle.script.specs.Fields.{fieldsOf}
-use Rattle.script.specs.Numbers.{decimalOf, operationOf}
+use Rattle.script.specs.Numbers.{operationOf}
 use Rattle.script.specs.Places.{Starts}
 use Rattle.script.specs.declared.command.Command.the-variants.{Bad}
 use Rattle.script.specs.declared.events.Rights.the-variants.{NoRights}
-use Rattle.script.proofs.Lines.{told}
-use Rattle.script.proofs.Readings.{there, decimal-next, operation-next, either-way, rights-there, no-rights, some-rights}
+use Rattle.script.proofs.Told.{told}
+use Rattle.script.proofs.Readings.{there, decimal-none, decimal-read, decimal-next, operation-next, either-way, rights-there, no-rights, some-rights}
 use Rattle.script.proofs.events.peripheral.Statement.{statement}
 use Rattle.script.proofs.events.peripheral.Tie as tie
 
@@ -23,19 +23,16 @@ abbrev fields : tie.Start → List (List ℕ)
 fields c = fieldsOf (c .args .line .now)
 
 abbrev number : tie.After-p → tie.Start
-number c = c .before .before .before .before .before
+number c = c .before .before .before .before
 
-second : (c : tie.After-p) → Starts (number c .args .line .now) (fields (number c)) 2 (c .before .before .before .field-end .result + 1)
-second c =
-    let s = number c .pre in
-    decimal-next s _ (c .before .before .before .field-end .ensures) (there s decimalOf (c .before .before .decimal-at .ensures) (c .p .given .1))
+second : (c : tie.After-p) → Starts (number c .args .line .now) (fields (number c)) 2 (c .p .given .0 .1 .0 + 1)
+second c = decimal-next (number c .pre) (c .before .before .decimal-at .ensures) (c .p .given .1)
 
 abbrev operation : tie.After-operation → tie.After-p
 operation c = c .before .before .before .before
 
 third : (c : tie.After-operation)
-    → Starts (number (operation c) .args .line .now) (fields (number (operation c))) 3
-    (operation c .before .before .before .field-end .result + 1 + 2)
+    → Starts (number (operation c) .args .line .now) (fields (number (operation c))) 3 (operation c .p .given .0 .1 .0 + 1 + 2)
 third c =
     let s = second (operation c) in
     operation-next s (there s operationOf (c .before .before .operation-at .ensures) (c .operation .given .1))
@@ -43,15 +40,15 @@ third c =
 returns : tie.Need-returns
 unfolding peripheralLine
 returns c =
-    let a = c .before .before .before .before .before in
-    rw (there (a .pre) decimalOf (c .before .before .decimal-at .ensures) (c .enum-told .given .1)) (either-way (eqb (length (fields a)) 5) Bad)
+    let a = c .before .before .before .before in
+    rw (decimal-none (a .pre) (c .before .before .decimal-at .ensures) (c .enum-told .given .1)) (either-way (eqb (length (fields a)) 5) Bad)
 
 returns-2 : tie.Need-returns-2
 unfolding peripheralLine
 returns-2 c =
     let p = c .before .before .before .before in
     rw (
-      there (number p .pre) decimalOf (p .before .before .decimal-at .ensures) (p .p .given .1),
+      decimal-read (number p .pre) (p .before .before .decimal-at .ensures) (p .p .given .1),
       there (second p) operationOf (c .before .before .operation-at .ensures) (c .enum-told2 .given .1),
     )
     (either-way (eqb (length (fields (number p))) 5) Bad)
@@ -65,7 +62,7 @@ returns-3 c =
     ⊎-elim (λ (e : eqb (length fs) 5 ≡ false). rw e)
     (λ (e : rightsFields fs 3 ≡ NoRights).
     rw (
-      there (number p .pre) decimalOf (p .before .before .decimal-at .ensures) (p .p .given .1),
+      decimal-read (number p .pre) (p .before .before .decimal-at .ensures) (p .p .given .1),
       there (second p) operationOf (o .before .before .operation-at .ensures) (o .operation .given .1),
       e,
     )
@@ -84,7 +81,7 @@ returns-4 c =
     (told (r .before .before .last-rights .ensures ∙ rights-there (third o)) (r .secure .given .1)) in
     rw (
       e .0,
-      there (number p .pre) decimalOf (p .before .before .decimal-at .ensures) (p .p .given .1),
+      decimal-read (number p .pre) (p .before .before .decimal-at .ensures) (p .p .given .1),
       there (second p) operationOf (o .before .before .operation-at .ensures) (o .operation .given .1),
       e .1,
     )
@@ -92,7 +89,7 @@ returns-4 c =
 pub peripheral-spec : {M : Type 1} → statement M
 peripheral-spec =
     tie.close
-    (tie.spec (λ c κs. search needs) (λ c κs. c .field-end .ensures) (λ c. search needs) (λ c. search needs) returns
+    (tie.spec (λ c κs. search needs) (λ c. search needs) (λ c. search needs) returns
     (λ c. omega (arith, second (c .before) .within)) (λ c κs. second (c .before) .within) (λ c. search needs) (λ c. search needs) returns-2
     (λ c. omega (arith, third (c .before) .within)) (λ c. omega (arith, third (c .before) .within)) (λ c κs. third (c .before) .within)
     (λ c. search needs) (λ c. search needs) returns-3 returns-4)

@@ -11,10 +11,10 @@ use lib.Dec.{eqb, lit<}
 use lib.ListN.{length}
 use Rattle.script.specs.Command.{requestFields, rightsFields, writeOf}
 use Rattle.script.specs.Numbers.{hexOf}
-use Rattle.script.specs.Places.{Starts, hexStep, restAt}
+use Rattle.script.specs.Places.{Starts, restAt}
 use Rattle.script.specs.declared.command.Command.the-variants.{Bad}
 use Rattle.script.specs.declared.events.Rights.the-variants.{NoRights}
-use Rattle.script.proofs.Lines.{told}
+use Rattle.script.proofs.Told.{told}
 use Rattle.script.proofs.Places.{starts-begin}
 use Rattle.script.proofs.Readings.{there, hex-next, either-next, either-way, rights-there, no-rights, some-rights}
 use Rattle.script.proofs.events.request.Statement.{statement}
@@ -30,7 +30,7 @@ first c = starts-begin (c .args .line .now) (c .args .from) (c .pre)
 abbrev offset : tie.After-offset → tie.Start
 offset c = c .before .before .before .before
 
-second : (c : tie.After-offset) → Starts (offset c .args .line .now) (fields (offset c)) 1 (offset c .args .from + hexStep)
+second : (c : tie.After-offset) → Starts (offset c .args .line .now) (fields (offset c)) 1 (offset c .args .from + 9)
 second c =
     let s = first (offset c) in
     hex-next s (there s hexOf (c .before .before .hex-at .ensures) (c .offset .given .1))
@@ -39,7 +39,7 @@ abbrev write : tie.After-write → tie.After-offset
 write c = c .before .before .before .before
 
 third : (c : tie.After-write)
-    → Starts (offset (write c) .args .line .now) (fields (offset (write c))) 2 (offset (write c) .args .from + hexStep + 2)
+    → Starts (offset (write c) .args .line .now) (fields (offset (write c))) 2 (offset (write c) .args .from + 9 + 2)
 third c =
     let s = second (write c) in
     either-next s (code "w") (code "r") (lit< tt) (lit< tt) (there s writeOf (c .before .before .either-at .ensures) (c .write .given .1))
@@ -49,7 +49,7 @@ value c = c .before .before .before .before
 
 fourth : (c : tie.After-value)
     → Starts (offset (write (value c)) .args .line .now) (fields (offset (write (value c)))) 3
-    (offset (write (value c)) .args .from + hexStep + 2 + hexStep)
+    (offset (write (value c)) .args .from + 9 + 2 + 9)
 fourth c =
     let s = third (value c) in
     hex-next s (there s hexOf (c .before .before .hex-at2 .ensures) (c .value .given .1))

@@ -1,65 +1,84 @@
--- `script::numbers::hex` meets its contract: what is read so far and the rest say what the whole field says.
+-- `script::numbers::hex` meets its contract: what is done to the eight bytes at once is done to each.
 use borrow.Author.Needs.{needs}
-use borrow.Author.Tests.{ne-eqb}
-use mathlib.Core.Path.{_≡_, sym, _∙_}
-use Prim.Native.Nat.{_≤_, _<_, _-_, _^_}
+use mathlib.Core.List.{List}
+use mathlib.Core.Path.{_≡_, refl, sym, ap, _∙_}
+use Prim.Native.Nat.{ℕ, _+_, _*_, _/_, _^_, _≤_}
 use native.Mathlib.Omega.{arith}
-use lib.ListN.{length, drop}
-use Rattle.script.specs.Numbers.{numberIf, hexOf}
-use Rattle.script.proofs.Values.{hexFrom, hex-begin, hex-step, hex-end, hex-room}
+use lib.Bits.{bitAnd, and-le-r}
+use lib.ListN.{take, drop}
+use Rattle.script.specs.Numbers.{hexOf}
+use Rattle.script.proofs.Gathered.{lowerBytes, lowerPairs}
+use Rattle.script.proofs.HexWord.{each, digitsIn, digits-most, shown-most, hex-not-low, hex-not-good, hex-good, hex-value, bytesAt, taken, bytes-known, eight-packed}
+use Rattle.script.proofs.Packed.{packed, Bytes}
 use Rattle.script.proofs.numbers.hex.Statement.{statement}
 use Rattle.script.proofs.numbers.hex.Tie as tie
 
-abbrev Inv-loop : tie.InvT-loop
-Inv-loop s n₀ good₀ i₀ n good i =
-    (i ≤ 8) × (length s ≡ 8) × (n < 16 ^ i) × (hexFrom good n (drop i s) ≡ hexOf s)
+abbrev text : tie.After-four2 → ℕ
+text c = 4294967296 * c .before .four .result + c .four2 .result
 
-abbrev μ-loop : tie.MeasureT-loop
-μ-loop s n₀ good₀ i₀ n good i = 8 - i
+abbrev line : tie.After-four2 → List ℕ
+line c = c .before .before .before .args .line .now
 
-returns : tie.Need-returns Inv-loop μ-loop
-unfolding hexOf
-returns c = rw (ne-eqb _ 8 (c .if1 .taken))
+abbrev from : tie.After-four2 → ℕ
+from c = c .before .before .before .args .from
 
-loop-holds : tie.Need-loop-holds Inv-loop μ-loop
-loop-holds c =
-    let h = c .if1 .left in
-    (search needs, h, search needs, hex-begin _ h)
+bytes : (c : tie.After-four2) → Bytes (bytesAt (line c) (from c) 8)
+bytes c = bytes-known 8 (line c) (from c) (λ i. c .before .before .shared-slice-known .given i .fits)
 
-mul-n : tie.Need-mul-n Inv-loop μ-loop
-mul-n c =
-    let l = c .before .before .loop in
-    omega (arith, hex-room (l .n) 0 (l .i) (omega arith) (l .inv .2) (omega arith))
+is : (c : tie.After-four2) → text c ≡ packed (λ b. b) 0 (bytesAt (line c) (from c) 8)
+is c = eight-packed (line c) (from c) _ _ (c .before .four .ensures) (c .four2 .ensures)
 
-add-n : tie.Need-add-n Inv-loop μ-loop
-add-n c =
-    let l = c .before .before .before .loop in
-    omega (arith, hex-room (l .n) (c .hex-digit .result) (l .i) (omega arith) (l .inv .2) (c .hex-digit .ensures .0))
+there : (c : tie.After-four2) → hexOf (bytesAt (line c) (from c) 8) ≡ hexOf (take 8 (drop (from c) (line c)))
+there c = ap hexOf (sym (taken 8 (line c) (from c) (c .before .before .before .pre)))
 
-loop-again : tie.Need-loop-again Inv-loop μ-loop
-loop-again c =
-    let l = c .before .before .before .loop in
-    let r = hex-room (l .n) (c .hex-digit .result) (l .i) (omega arith) (l .inv .2) (c .hex-digit .ensures .0) in (
-      omega arith,
-      l .inv .1,
-      r .0,
-      hex-step _ (l .i) (l .n) _ (l .good) (omega arith) (c .hex-digit .ensures .1) ∙ l .inv .3,
-    )
+returns : tie.Need-returns
+returns c = hex-not-low _ _ _ _ _ _ _ _ (bytes (c .before)) (text (c .before)) (is (c .before)) (c .if1 .taken) ∙ there (c .before)
 
--- all eight bytes are read
-read : (c : tie.After-loop Inv-loop μ-loop) → numberIf (c .before .loop .good) (c .before .loop .n) ≡ hexOf (c .before .before .before .before .args .s .now)
-read c =
-    let l = c .before .loop in
-    sym (hex-end _ (l .i) (l .n) (l .good) (omega arith)) ∙ l .inv .3
+returns-2 : tie.Need-returns-2
+returns-2 c =
+    let f = c .before .before in
+    hex-not-good _ _ _ _ _ _ _ _ (bytes f) (text f) (is f) (c .if2 .taken) ∙ there f
 
-returns-2 : tie.Need-returns-2 Inv-loop μ-loop
-returns-2 c = rw (c .if2 .taken) at (read (c .before))
+returns-3 : tie.Need-returns-3
+returns-3 c =
+    let f = c .before .before in
+    hex-value _ _ _ _ _ _ _ _ (bytes f) (text f) (is f) (hex-good _ _ _ _ _ _ _ _ (bytes f) (text f) (is f) (c .before .if1 .left) (c .if2 .left))
+    _ _ refl refl ∙ there f
 
-returns-3 : tie.Need-returns-3 Inv-loop μ-loop
-returns-3 c = rw (c .if2 .left) at (read (c .before))
+-- the digits in pairs
+abbrev paired : tie.After-four2 → ℕ
+paired c = bitAnd (digitsIn (text c) + digitsIn (text c) / 2 ^ 4) lowerBytes
+
+paired-most : (c : tie.After-four2) → paired c ≤ lowerBytes
+paired-most c = and-le-r (digitsIn (text c) + digitsIn (text c) / 2 ^ 4) lowerBytes
 
 pub hex-spec : {M : Type 1} → statement M
 hex-spec =
     tie.close
-    (tie.spec Inv-loop μ-loop returns loop-holds (λ c. search needs) mul-n (λ c κs. search needs) add-n
-    (λ c. search needs) (λ c. search needs) loop-again returns-2 returns-3)
+    (tie.spec
+    (λ c κs. search needs)
+    (λ c. search needs)
+    (λ c. search needs)
+    (λ c. search needs)
+    (λ c κs. search needs)
+    (λ c. search needs)
+    (λ c. search needs)
+    (λ c. search needs)
+    (λ c. search needs)
+    (λ c. omega (arith, and-le-r (text c) (64 * each)))
+    (λ c. omega (arith, digits-most (text c)))
+    (λ c. search needs)
+    returns
+    (λ c. search needs)
+    (λ c. omega (arith, digits-most (text (c .before))))
+    (λ c. search needs)
+    (λ c. search needs)
+    (λ c. omega (arith, digits-most (text (c .before))))
+    (λ c. omega (arith, shown-most (text (c .before))))
+    (λ c. omega (arith, digits-most (text (c .before)), shown-most (text (c .before))))
+    returns-2
+    (λ c. omega (arith, digits-most (text (c .before .before))))
+    (λ c. omega (arith, paired-most (c .before .before)))
+    (λ c. omega (arith, and-le-r (paired (c .before .before) + paired (c .before .before) / 2 ^ 8) lowerPairs))
+    (λ c. search needs)
+    returns-3)
