@@ -17,9 +17,8 @@ returns c =
 returns-2 : tie.Need-returns-2
 unfolding accessed answerOf checksOf answeredWith reachedWith
 returns-2 c =
-    let q = c .before .before .before .before .before .args .q in
-    let r = c .before .before .before .before .before .args .row in
-    simp (c .left2 .ensures, not-false (q .write) (c .before .before .before .if1 .left), ne-eqb (q .offset % 4) 0 (c .before .if2 .taken))
+    let s = c .before .before .before .before .before .args in
+    simp (c .left2 .ensures, not-false (s .q .write) (c .before .before .before .if1 .left), ne-eqb (s .q .offset % 4) 0 (c .before .if2 .taken))
 
 returns-3 : tie.Need-returns-3
 unfolding accessed answerOf checksOf answeredWith reachedWith
