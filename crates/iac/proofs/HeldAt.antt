@@ -1,5 +1,5 @@
 -- What is kept where one word changes: what code goes by (OneWord) is Held.
-use mathlib.Core.Bool.{Bool, true, false, not, _&&_, _||_, cond, or-false, true≢false}
+use mathlib.Core.Bool.{Bool, true, false, _&&_, _||_, cond, or-false, true≢false}
 use mathlib.Core.Path.{_≡_, refl, sym, ap, ap₂, _∙_}
 use Prim.Native.Nat.{ℕ, _+_, _-_, _/_, _%_, _^_, _≤_, _<_}
 use native.Mathlib.Decide.{decLt}
@@ -9,9 +9,9 @@ use borrow.Author.Tests.{eqb-true, eq-eqb}
 use lib.Dec.{eqb}
 use lib.ListN.{length, getD, set, List·getD-eq-default}
 use lib.Seq.{getD-set-same, getD-set-other, set-getD}
-use Rattle.words.specs.Bit.{bit, one, masked, withBit}
+use Rattle.words.specs.Bit.{bit, one, withBit}
 use Rattle.words.specs.Six.{bitWords}
-use Rattle.words.proofs.Laws.{bit-zero, bit-ext, bit-masked, bit-withBit, withBit-lt}
+use Rattle.words.proofs.Laws.{bit-zero, bit-ext, bit-withBit, withBit-lt}
 use Rattle.words.proofs.Masks.{withBit-other}
 use Rattle.access.specs.declared.flag.Flag.{Flag}
 use Rattle.iac.specs.Contents.{heldOf, withHeld, withWord}

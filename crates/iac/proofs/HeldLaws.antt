@@ -1,7 +1,7 @@
 -- The fresh count of one index: as the code counts it, its bound, and what it does not see.
 use mathlib.Core.Bool.{Bool, true, false, _&&_, and-comm}
-use mathlib.Core.Path.{_≡_, refl, sym, ap, _∙_}
-use Prim.Native.Nat.{ℕ, zero, suc, _+_, _*_, _^_, _≤_, _<_}
+use mathlib.Core.Path.{_≡_, refl, ap, _∙_}
+use Prim.Native.Nat.{ℕ, zero, suc, _≤_, _<_}
 use native.Mathlib.Omega.{arith}
 use lib.Count.{onesIn, ones, ones-cat}
 use Rattle.words.specs.Bit.{bit, one, word, masked}

@@ -1,13 +1,13 @@
 -- What is kept stays true, and what is done to it where it is not: change request Q-4, in the words of Kept.
 use mathlib.Core.Bool.{Bool, true, false, not, _&&_, _||_, cond, true≢false}
 use mathlib.Core.Path.{_≡_, refl, sym, ap, ap₂, _∙_}
-use Prim.Native.Nat.{ℕ, _+_, _-_, _*_, _%_, _≤_, _<_}
+use Prim.Native.Nat.{ℕ, _+_, _-_, _%_, _≤_, _<_}
 use native.Mathlib.Nat.{mod-lt, mod-eq-of-lt}
 use native.Mathlib.Omega.{arith}
 use borrow.Author.Tests.{eqb-true, eq-eqb, not-false}
 use lib.Dec.{eqb}
 use lib.ListN.{getD}
-use Rattle.words.specs.Bit.{bit, one, masked, merged, withBit}
+use Rattle.words.specs.Bit.{bit, one, masked, merged}
 use Rattle.words.specs.Six.{bitWords}
 use Rattle.words.proofs.Laws.{bit-ext, bit-masked, masked-lt, bit-merged, bit-withBit, bit-ones, bit-high, word-bits}
 use Rattle.words.proofs.Masks.{withBit-other}
@@ -21,7 +21,6 @@ use Rattle.iac.specs.Kept.{True, SameBits, Moves}
 use Rattle.iac.specs.Port.{wordWritten, written}
 use Rattle.iac.specs.Registers.{iisr}
 use Rattle.iac.specs.declared.contents.Iac.{Iac}
-use Rattle.iac.specs.declared.held.Held.{Held}
 use Rattle.iac.specs.declared.registers.Register.{Register}
 use Rattle.iac.proofs.HeldLaws.{fresh-most, fresh-same}
 use Rattle.iac.proofs.Sums.{sum-same, sum-most, any-sum, any-none, none-any}

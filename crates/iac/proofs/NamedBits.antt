@@ -1,11 +1,10 @@
 -- The IAC changes and reads named bits alone: s is an IAC, S has a mask for each of its words.
 use mathlib.Core.Bool.{Bool, true, false, cond}
 use mathlib.Core.Path.{_≡_, refl, _∙_, subst}
-use Prim.Native.Nat.{ℕ, _/_, _%_, _<_}
+use Prim.Native.Nat.{ℕ, _/_, _%_}
 use native.Mathlib.Nat.{mod-lt}
 use native.Mathlib.Omega.{arith}
-use lib.ListN.{getD}
-use Rattle.words.specs.Bit.{bit, withBit}
+use Rattle.words.specs.Bit.{bit}
 use Rattle.words.proofs.Alike.{Kept, Same, kept-refl, same-refl, kept-set, same-set, same-masked}
 use Rattle.access.specs.Answer.{left}
 use Rattle.access.specs.declared.answer.Answer.{Answer}

@@ -1,8 +1,7 @@
 -- The IAC compared word by word: S has a mask for each of its words.
-use mathlib.Core.Bool.{Bool, true, not, _&&_, and-true}
+use mathlib.Core.Bool.{Bool, not, _&&_, and-true}
 use mathlib.Core.Path.{_≡_, refl, ap, _∙_}
 use Prim.Native.Nat.{ℕ}
-use lib.ListN.{getD}
 use lib.Seq.{set-getD}
 use Rattle.words.specs.Bit.{bit}
 use Rattle.words.proofs.Alike.{Within, Kept, Same, within-not, kept-refl, kept-word, same-word, kept-merged, same-merged, Each, each-get, each-set}

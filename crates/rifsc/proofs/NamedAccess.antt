@@ -17,9 +17,8 @@ use Rattle.rifsc.specs.Registers.{ppsr, ppsrs, rowOf}
 use Rattle.rifsc.specs.declared.contents.Rifsc.{Rifsc}
 use Rattle.rifsc.specs.declared.masters.MasterNumber.{MasterNumber}
 use Rattle.rifsc.specs.declared.peripherals.PeripheralNumber.{PeripheralNumber}
-use Rattle.rifsc.specs.declared.registers.Register.{Register}
 use Rattle.rifsc.specs.declared.registers.Register.the-variants.{Seccfgr, Privcfgr, Attr}
-use Rattle.rifsc.proofs.NamedBits.{Alike, Has, Placed, bit-same}
+use Rattle.rifsc.proofs.NamedBits.{Alike, Has, bit-same}
 
 -- ---- each guarding peripheral is one there is: its PPSR bit is 1, by computing over the table
 

@@ -1,11 +1,10 @@
 -- `spans::row_place` meets its contract: the rows are passed one after the other. Assumes nothing.
-use Prim.Native.Nat.{_≤_, _+_, _-_}
-use mathlib.Core.Path.{_≡_, _∙_, refl, sym}
+use Prim.Native.Nat.{_+_, _-_}
+use mathlib.Core.Path.{_∙_, refl, sym}
 use native.Mathlib.Omega.{arith}
 use lib.ListN.{length, drop, length-drop}
 use denote.Ref.{now}
 use borrow.Author.Needs.{needs}
-use Rattle.spans.specs.Lookup.{rowPlace}
 use Rattle.spans.proofs.Found.{Passed, place-here, place-later, place-short, passed-two, passed-three, passed-four}
 use Rattle.spans.proofs.row_place.Statement.{statement}
 use Rattle.spans.proofs.row_place.Tie as tie

@@ -1,6 +1,6 @@
 -- `rifsc::port::Seen::access` meets its contract: the first test that fails, with those before it passed.
 use mathlib.Core.Bool.{not, _&&_, _||_}
-use mathlib.Core.Path.{_≡_, _∙_}
+use mathlib.Core.Path.{_∙_}
 use Prim.Native.Nat.{_%_}
 use borrow.Author.Tests.{eq-eqb, ne-eqb, not-true, not-false}
 use Rattle.access.specs.Checks.{answeredWith, reachedWith}
