@@ -1,5 +1,5 @@
 -- The answer to a memory access, as the code makes it.
-use mathlib.Core.Bool.{Bool, true, false, _&&_, _||_, and-false, or-false}
+use mathlib.Core.Bool.{Bool, true, false, _&&_, _||_, and-false, or-false, cond}
 use mathlib.Core.List.{List}
 use mathlib.Core.Path.{_≡_, refl, sym, ap, _∙_}
 use Prim.Native.Nat.{ℕ, _%_, _≤_, _<_}
@@ -25,6 +25,10 @@ use Rattle.regions.specs.declared.rules.Verdict.{Verdict}
 use Rattle.regions.proofs.Enough.{decided-enough}
 
 -- ---- the tests
+
+-- of four bytes or more there is one width
+pub wide-width : (width : ℕ) → 4 ≤ width → isWidth width ≡ eqb width 4
+wide-width width h = rw (ne-eqb width 1 (λ e. omega (arith, h, e)), ne-eqb width 2 (λ e. omega (arith, h, e))) refl
 
 pub other-width : (o width : ℕ) → (width ≡ 2 → ⊥) → (width ≡ 4 → ⊥) → isWidth width ≡ true → true ≡ eqb (o % width) 0
 other-width o width two four h =
@@ -58,13 +62,13 @@ module _ (there : Bool) (shape : Shape) (o width : ℕ) (k : Kind) where
         unfolding memoryChecked memoryChecks answeredWith
         misaligned e = rw (et, ec, ew, e) refl
 
-        pub outside : eqb (o % width) 0 ≡ true → ltb o (shape .window) ≡ false → Rejected Outside ≡ checked
-        unfolding memoryChecked memoryChecks answeredWith
-        outside ea e = rw (et, ec, ew, ea, e) refl
-
-        pub passed : eqb (o % width) 0 ≡ true → ltb o (shape .window) ≡ true → Done 0 ≡ checked
+        pub placed-is : eqb (o % width) 0 ≡ true → {r : Answer} → r ≡ cond (ltb o (shape .window)) (Done 0) (Rejected Outside) → r ≡ checked
         unfolding memoryChecked memoryChecks answeredWith reachedWith
-        passed ea e = rw (et, ec, ew, ea, e) refl
+        placed-is ea e = e ∙ rw (et, ec, ew, ea) (go (ltb o (shape .window)))
+          where
+            go : (i : Bool) → cond i (Done 0) (Rejected Outside) ≡ unless i (Rejected Outside) (Done 0)
+            go true = refl
+            go false = refl
 
 -- ---- what is answered before the rules are asked, and then
 

@@ -4,10 +4,12 @@ use access::DEBUGGER;
 use access::Kind;
 use access::Why;
 use regions::places::COMPARTMENTS;
-ghost use mathlib.Core.Bool.{true};
+ghost use mathlib.Core.Bool.{cond, true};
 ghost use mathlib.Core.Path.{_≡_};
 ghost use Prim.Native.Nat.{_%_};
-ghost use lib.Dec.{eqb};
+ghost use lib.Dec.{eqb, ltb};
+ghost use Rattle.access.specs.declared.answer.Answer.the-variants.{Done, Rejected};
+ghost use Rattle.access.specs.declared.answer.Why.the-variants.{Outside};
 ghost use Rattle.risaf.specs.Memory.{isWidth, memoryChecked, recordedFault};
 
 // The fault registers, as stored.
@@ -28,6 +30,9 @@ const WRITE: u32 = 128;
 
 const IAESR_NAMED: u32 = 0xb7;
 
+// The bytes of a word.
+const WORD: u32 = 4;
+
 fn is_width(width: u32) -> bool
     ensures { λ r. ⌜ r ≡ isWidth width ⌝ }
 {
@@ -45,6 +50,16 @@ fn aligned(o: u32, width: u32) -> bool
     }
 }
 
+// The answer to an access of which nothing is left to be tested but its place in the window.
+fn placed(window: u64, o: u32) -> Answer
+    ensures { λ r. ⌜ r ≡ cond (ltb o window) (Done 0) (Rejected Outside) ⌝ }
+{
+    if window <= o as u64 {
+        return Answer::Rejected(Why::Outside);
+    }
+    Answer::Done(0)
+}
+
 // The answer to a memory access of a kind if the rules grant it: done, where they are to be asked. there says whether the guard, and the
 // master, are ones there are.
 pub fn memory_checked(there: bool, shape: Shape, o: u32, width: u32, k: Kind) -> Answer
@@ -57,16 +72,23 @@ pub fn memory_checked(there: bool, shape: Shape, o: u32, width: u32, k: Kind) ->
     if DEBUGGER.0 < k.cid.0 {
         return Answer::Rejected(Why::NoSuch);
     }
+    // A word is what is asked for most.
+    if WORD <= width {
+        if width != WORD {
+            return Answer::Rejected(Why::NoSuch);
+        }
+        if o % WORD != 0 {
+            return Answer::Rejected(Why::Misaligned);
+        }
+        return placed(shape.window, o);
+    }
     if !is_width(width) {
         return Answer::Rejected(Why::NoSuch);
     }
     if !aligned(o, width) {
         return Answer::Rejected(Why::Misaligned);
     }
-    if shape.window <= o as u64 {
-        return Answer::Rejected(Why::Outside);
-    }
-    Answer::Done(0)
+    placed(shape.window, o)
 }
 
 impl Faults {
