@@ -19,8 +19,8 @@ use Rattle.access.specs.declared.bus.Bus.the-variants.{Axi, Ahb}
 use Rattle.access.specs.declared.kind.Kind.{Kind}
 use Rattle.access.proofs.Folds.{any-same, all-same}
 use Rattle.access.proofs.Heard.{heard-cid}
-use Rattle.regions.specs.Words.{base, sub, cidcfgrAt, enableBit, secBit, privcBit, rdenBit, wrenBit, readBit, writeBit}
-use Rattle.regions.specs.Rules.{Tests, reasonOf, covers, everyBase, srcid, isDefault, tests0, tests1, tests2, opens, someSub, counted, covered, ruleOf, tests, decided}
+use Rattle.regions.specs.Words.{base, sub, cidcfgrAt, enableBit, secBit, privBit, privcBit, rdenBit, wrenBit, readBit, writeBit}
+use Rattle.regions.specs.Rules.{Tests, reasonOf, covers, everyBase, everySub, srcid, workingPriv, isDefault, tests0, tests1, tests2, opens, someSub, counted, covered, ruleOf, tests, decided}
 use Rattle.regions.specs.Masks.{masks, openings, Passed}
 use Rattle.regions.specs.Admits.{defaults, byDefault, byBases, bySubs, byRegions, byMasks, admitted, allIf, allAsZero, withDebugger, asHeard, admitsSecurity, testsOf, verdictOf}
 use Rattle.regions.specs.declared.admits.Admits.{Admits}
@@ -58,12 +58,16 @@ not-some (suc n) v p = go (any n (λ x. v x && p x)) (v n) ∙ ap (λ (b : Bool)
     go false true = refl
     go false false = refl
 
-module _ (adds : ℕ → ℕ) (w : List ℕ) (n o : ℕ) (k : Kind) (h : k .cid .0 ≤ 7) where
+pub default-bit : (bus : Bus) (k : Kind) → k .cid .0 ≤ 7 → bit (defaults bus) (k .cid .0) ≡ isDefault bus k
+default-bit Axi k h = bit-word 8 (λ i. eqb i 1 || eqb i 7) (k .cid .0) (omega (arith, h))
+default-bit Ahb k h = bit-ones 8 (k .cid .0) (omega (arith, h))
+
+module _ (p : Bool) (adds : ℕ → ℕ) (w : List ℕ) (n o : ℕ) (k : Kind) (h : k .cid .0 ≤ 7) where
   abbrev c : ℕ
   c = k .cid .0
 
   abbrev m : Masks
-  m = masks adds w n o
+  m = masks p adds w n o
 
   small : c < 8
   small = omega (arith, h)
@@ -86,29 +90,27 @@ module _ (adds : ℕ → ℕ) (w : List ℕ) (n o : ℕ) (k : Kind) (h : k .cid 
       privilege false = ap not (bit-ones 8 c small)
 
       compartment : (bus : Bus) (d : Bool) → bit (cond d (defaults bus) (defaults bus)) c ≡ isDefault bus k
-      compartment Axi true = bit-word 8 (λ i. eqb i 1 || eqb i 7) c small
-      compartment Axi false = bit-word 8 (λ i. eqb i 1 || eqb i 7) c small
-      compartment Ahb true = bit-ones 8 c small
-      compartment Ahb false = bit-ones 8 c small
+      compartment bus true = default-bit bus k h
+      compartment bus false = default-bit bus k h
 
   -- ---- rule 1
 
   bases-security : (s : Bool) → cond s (bit (m .every) secBit) (not (bit (m .some) secBit)) ≡ everyBase w n o (λ x. Bool·beq s (bit (getD w (base x) 0) secBit))
-  bases-security true = every-bit adds w o n secBit (lit< tt) ∙ every-same _ _ (λ x. beq-true (bit (getD w (base x) 0) secBit))
+  bases-security true = every-bit p adds w o n secBit (lit< tt) ∙ every-same _ _ (λ x. beq-true (bit (getD w (base x) 0) secBit))
   bases-security false =
-      ap not (some-bit adds w o n secBit) ∙ not-some n (λ x. covers w (base x) o) (λ x. bit (getD w (base x) 0) secBit)
+      ap not (some-bit p adds w o n secBit) ∙ not-some n (λ x. covers w (base x) o) (λ x. bit (getD w (base x) 0) secBit)
       ∙ every-same _ _ (λ x. beq-false (bit (getD w (base x) 0) secBit))
 
   bases-privilege : (p : Bool) → (p || not (bit (m .some / 2 ^ 16) c)) ≡ everyBase w n o (λ x. p || not (bit (getD w (base x) 0) (privcBit c)))
   bases-privilege true = every-true n (λ x. covers w (base x) o)
   bases-privilege false =
-      ap not (bit-shr (m .some) 16 c ∙ some-bit adds w o n (16 + c)) ∙ not-some n (λ x. covers w (base x) o) (λ x. bit (getD w (base x) 0) (16 + c))
+      ap not (bit-shr (m .some) 16 c ∙ some-bit p adds w o n (16 + c)) ∙ not-some n (λ x. covers w (base x) o) (λ x. bit (getD w (base x) 0) (16 + c))
 
   -- the enables from bit `at`
   bases-enabled : (at x : ℕ) → at + c < 32 → bit x c ≡ bit (m .enables) (at + c)
       → bit (bitOr x 0x80) c ≡ everyBase w n o (λ y. eqb c 7 || bit (getD w (base y + cidcfgrAt) 0) (at + c))
   bases-enabled at x l e =
-      bit-or x 0x80 c ∙ ap₂ _||_ (e ∙ enables-bit adds w o n (at + c) l) (bit-pow 7 c) ∙ go (eqb c 7)
+      bit-or x 0x80 c ∙ ap₂ _||_ (e ∙ enables-bit p adds w o n (at + c) l) (bit-pow 7 c) ∙ go (eqb c 7)
     where
       go : (t : Bool)
           → (everyBase w n o (λ y. bit (getD w (base y + cidcfgrAt) 0) (at + c)) || t)
@@ -139,12 +141,17 @@ module _ (adds : ℕ → ℕ) (w : List ℕ) (n o : ℕ) (k : Kind) (h : k .cid 
   all-if true d e = bit-ones 8 c small ∙ e
   all-if false d e = bit-zero c ∙ e
 
+  -- PRIV was looked at, or need not be
+  subs-privilege : (q : Bool) → p ≡ q → (p ≡ true → k .privileged ≡ true)
+      → (k .privileged || not (bit (allIf (bit (m .privileged) privBit)) c)) ≡ (k .privileged || not (everySub w n o (workingPriv w)))
+  subs-privilege true e passed = rw (passed e) refl
+  subs-privilege false e passed = ap (λ (b : Bool). k .privileged || not b) (all-if _ _ (privileged-bit p adds w o e n))
+
   -- with the compartments that may read and write, by what this one may
-  pub subs-tests : (reads writes : ℕ) → bit (cond (k .write) writes reads) c ≡ someSub w n o (opens w k) → testsOf (bySubs m reads writes) k ≡ tests2 w n o k
+  pub subs-tests : (p ≡ true → k .privileged ≡ true) → (reads writes : ℕ) → bit (cond (k .write) writes reads) c ≡ someSub w n o (opens w k) → testsOf (bySubs m reads writes) k ≡ tests2 w n o k
   unfolding testsOf bySubs
-  subs-tests reads writes e =
-      tests-same (subs-security (k .secure) _ _ (secure-bit adds w o n))
-      (ap (λ (b : Bool). k .privileged || not b) (all-if _ _ (privileged-bit adds w o n))) e
+  subs-tests passed reads writes e =
+      tests-same (subs-security (k .secure) _ _ (secure-bit p adds w o n)) (subs-privilege p refl passed) e
 
 -- who may read and write, for all compartments
 abbrev reads : Masks → ℕ
@@ -154,7 +161,7 @@ abbrev writes : Masks → ℕ
 writes m = withDebugger (field (m .opens) (writeBit 0) 8)
 
 all-compartment : (w : List ℕ) (n o : ℕ) (k : Kind) → k .cid .0 ≤ 7 → (d : Bool)
-    → bit (cond d (writes (masks openings w n o)) (reads (masks openings w n o))) (k .cid .0)
+    → bit (cond d (writes (masks false openings w n o)) (reads (masks false openings w n o))) (k .cid .0)
     ≡ someSub w n o
     (λ x s.
     (eqb (srcid w x s .0) (k .cid .0) || eqb (k .cid .0) 7) && cond d (bit (getD w (sub x s) 0) wrenBit) (bit (getD w (sub x s) 0) rdenBit))
@@ -191,11 +198,11 @@ module _ (w : List ℕ) (o : ℕ) where
       rw (none-counted n (d .0), d .1) refl
 
 -- what one pass over all base regions finds: one that covers has its enable in CFGR
-pub masks-found : (bus : Bus) (w : List ℕ) (n o : ℕ) → byMasks bus (masks openings w n o) ≡ admitted bus w n o
+pub masks-found : (bus : Bus) (w : List ℕ) (n o : ℕ) → byMasks bus (masks false openings w n o) ≡ admitted bus w n o
 unfolding byMasks admitted
 masks-found bus w n o =
-    ap (λ (c : Bool). cond c (byRegions (masks openings w n o)) (byDefault bus))
-    (some-bit openings w o n enableBit ∙ any-same n _ _ (λ x h. own (bit (getD w (base x) 0) enableBit) _))
+    ap (λ (c : Bool). cond c (byRegions (masks false openings w n o)) (byDefault bus))
+    (some-bit false openings w o n enableBit ∙ any-same n _ _ (λ x h. own (bit (getD w (base x) 0) enableBit) _))
   where
     own : (e i : Bool) → ((e && i) && e) ≡ (e && i)
     own true true = refl
@@ -216,16 +223,16 @@ tests-is bus w n o k h = by (covered w n o) refl (counted w n o) refl
     verdict a r t e f = ap₂ (λ (r : ℕ) (t : Tests). record { rule = r; reason = reasonOf t }) e f
 
     by : (d : Bool) → covered w n o ≡ d → (c : Bool) → counted w n o ≡ c
-        → verdictOf (cond d (cond (eqb (masks openings w n o .opens) 0) (byBases (masks openings w n o)) (bySubs (masks openings w n o) (reads (masks openings w n o)) (writes (masks openings w n o)))) (byDefault bus)) k
+        → verdictOf (cond d (cond (eqb (masks false openings w n o .opens) 0) (byBases (masks false openings w n o)) (bySubs (masks false openings w n o) (reads (masks false openings w n o)) (writes (masks false openings w n o)))) (byDefault bus)) k
         ≡ record { rule = cond c 2 (cond d 1 0); reason = reasonOf (cond c (tests2 w n o k) (cond d (tests1 w n o k) (tests0 bus k))) }
     by true e true f =
-        ap (λ (b : Bool). verdictOf (cond b (byBases (masks openings w n o)) (bySubs (masks openings w n o) (reads (masks openings w n o)) (writes (masks openings w n o)))) k) (not-true (eqb (masks openings w n o .opens) 0) (counted-is w n o ∙ f))
-        ∙ verdict (bySubs (masks openings w n o) (reads (masks openings w n o)) (writes (masks openings w n o))) 2 (tests2 w n o k) refl (subs-tests openings w n o k h _ _ (all-compartment w n o k h (k .write)))
+        ap (λ (b : Bool). verdictOf (cond b (byBases (masks false openings w n o)) (bySubs (masks false openings w n o) (reads (masks false openings w n o)) (writes (masks false openings w n o)))) k) (not-true (eqb (masks false openings w n o .opens) 0) (counted-is w n o ∙ f))
+        ∙ verdict (bySubs (masks false openings w n o) (reads (masks false openings w n o)) (writes (masks false openings w n o))) 2 (tests2 w n o k) refl (subs-tests false openings w n o k h (λ e. absurd (true≢false (sym e))) _ _ (all-compartment w n o k h (k .write)))
     by true e false f =
-        ap (λ (b : Bool). verdictOf (cond b (byBases (masks openings w n o)) (bySubs (masks openings w n o) (reads (masks openings w n o)) (writes (masks openings w n o)))) k) (not-false (eqb (masks openings w n o .opens) 0) (counted-is w n o ∙ f))
-        ∙ verdict (byBases (masks openings w n o)) 1 (tests1 w n o k) refl (bases-tests openings w n o k h)
+        ap (λ (b : Bool). verdictOf (cond b (byBases (masks false openings w n o)) (bySubs (masks false openings w n o) (reads (masks false openings w n o)) (writes (masks false openings w n o)))) k) (not-false (eqb (masks false openings w n o .opens) 0) (counted-is w n o ∙ f))
+        ∙ verdict (byBases (masks false openings w n o)) 1 (tests1 w n o k) refl (bases-tests false openings w n o k h)
     by false e true f = absurd (true≢false (sym f ∙ none-counted w o n e))
-    by false e false f = verdict (byDefault bus) 0 (tests0 bus k) refl (default-tests openings w n o k h bus)
+    by false e false f = verdict (byDefault bus) 0 (tests0 bus k) refl (default-tests false openings w n o k h bus)
 
 pub verdict-is : (bus : Bus) (w : List ℕ) (n o : ℕ) (k : Kind) → k .cid .0 ≤ 7
     → verdictOf (admitted bus w n o) (heard bus k) ≡ decided bus w n o k

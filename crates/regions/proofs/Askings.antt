@@ -1,15 +1,15 @@
 -- What the code gathers for one asking, and its verdict: that of the rules.
-use mathlib.Core.Bool.{Bool, true, false, _&&_, _||_, cond, Bool·beq, and-true, or-true, or-false}
+use mathlib.Core.Bool.{Bool, true, false, _&&_, _||_, cond, Bool·beq, and-true, or-false}
 use mathlib.Core.List.{List}
 use mathlib.Core.Path.{_≡_, refl, sym, ap, ap₂, _∙_}
 use Prim.Native.Nat.{ℕ, _+_, _*_, _/_, _%_, _^_, _≤_, _<_}
 use native.Mathlib.Omega.{arith}
-use lib.Bits.{bitAnd, bitOr}
+use lib.Bits.{bitAnd}
 use lib.Dec.{eqb}
 use lib.ListN.{getD}
 use Rattle.words.specs.Bit.{bit}
 use Rattle.words.proofs.Laws.{bit-zero, field-lt}
-use Rattle.words.proofs.Ops.{bit-and, bit-or}
+use Rattle.words.proofs.Ops.{bit-or}
 use Rattle.access.specs.Fold.{all}
 use Rattle.access.specs.Bus.{heard}
 use Rattle.access.specs.declared.bus.Bus.{Bus}
@@ -18,7 +18,7 @@ use Rattle.access.specs.declared.kind.Kind.{Kind}
 use Rattle.access.proofs.Folds.{any-same}
 use Rattle.regions.specs.Words.{sub, srcidBit, rdenBit, wrenBit}
 use Rattle.regions.specs.Rules.{Tests, reasonOf, ruleOf, covers, counts, srcid, opens, someSub, counted, covered, tests0, tests1, tests2, tests, decided}
-use Rattle.regions.specs.Masks.{Next, masks, subGathered, serving, askers}
+use Rattle.regions.specs.Masks.{Next, masks, subGathered, serving, servedBy}
 use Rattle.regions.specs.Admits.{allIf, byAsked, byBases, bySubs, governed, packed, testsOf, verdictOf}
 use Rattle.regions.specs.declared.masks.Masks.{Masks}
 use Rattle.regions.specs.declared.rules.Verdict.{Verdict}
@@ -32,60 +32,59 @@ use Rattle.regions.proofs.Openings.{all-at, beq-is}
 abbrev pub denOf : Bool → ℕ
 denOf write = cond write wrenBit rdenBit
 
--- SRCID i serves compartment c, by a test that computes
-abbrev serves : ℕ → ℕ → ℕ → Bool
-serves den c i = Bool·beq (bit (askers c den / 2 ^ i) den) (eqb i c || eqb c 7)
+-- SRCID i serves compartment c
+abbrev isServed : ℕ → ℕ → Bool
+isServed c i = eqb (bitAnd i (servedBy c .mask)) (servedBy c .srcid)
 
-all-serve : (d : Bool) → all 8 (λ c. all 8 (serves (denOf d) c)) ≡ true
-all-serve true = refl
-all-serve false = refl
+-- by a test that computes
+abbrev serves : ℕ → ℕ → Bool
+serves c i = Bool·beq (isServed c i) (eqb i c || eqb c 7)
 
-served : (d : Bool) (c i : ℕ) → c < 8 → i < 8 → bit (askers c (denOf d) / 2 ^ i) (denOf d) ≡ (eqb i c || eqb c 7)
-served d c i h l =
-    beq-is (bit (askers c (denOf d) / 2 ^ i) (denOf d)) (eqb i c || eqb c 7)
-    (all-at 8 (serves (denOf d) c) (all-at 8 (λ c. all 8 (serves (denOf d) c)) (all-serve d) c h) i l)
+all-serve : all 8 (λ c. all 8 (serves c)) ≡ true
+all-serve = refl
+
+served : (c i : ℕ) → c < 8 → i < 8 → isServed c i ≡ (eqb i c || eqb c 7)
+served c i h l = beq-is (isServed c i) (eqb i c || eqb c 7) (all-at 8 (serves c) (all-at 8 (λ c. all 8 (serves c)) all-serve c h) i l)
 
 one-bit : (d : Bool) → bit 1 (denOf d) ≡ false
 one-bit true = refl
 one-bit false = refl
 
-and-swap : (a b : Bool) → (a && (b || false)) ≡ (b && a)
-and-swap true true = refl
-and-swap true false = refl
-and-swap false true = refl
-and-swap false false = refl
+-- bit j of CFGR, which is 1 or is not in the enable alone
+either : (s : Bool) (cfgr j : ℕ) → bit (cond s cfgr 1) j ≡ cond s (bit cfgr j) (bit 1 j)
+either true cfgr j = refl
+either false cfgr j = refl
 
 -- a region that covers is enabled: e
-own : (a e i : Bool) → cond (e && i) (a || e) a ≡ (a || (e && i) && true)
-own a true true = refl
-own a true false = sym (or-false a)
-own a false i = sym (or-false a)
+own : (a e i s : Bool) → cond (e && i) (a || cond s e true) a ≡ (a || (e && i) && true)
+own a true true true = refl
+own a true true false = refl
+own a true false s = sym (or-false a)
+own a false i s = sym (or-false a)
 
 -- ---- all that count
 
-module _ (w : List ℕ) (o : ℕ) where
-  asked-counted : (who n : ℕ) → bit (masks (serving who) w n o .opens) 0 ≡ counted w n o
+module _ (p : Bool) (w : List ℕ) (o c : ℕ) where
+  abbrev by : ℕ → ℕ
+  by = serving (servedBy c)
+
+  asked-counted : (n : ℕ) → bit (masks p by w n o .opens) 0 ≡ counted w n o
   unfolding masks subGathered
-  asked-counted who n =
-      some-sub (serving who) w o (λ m. bit (m .opens) 0) (λ x s. true) (λ x m. refl) (bit-zero 0)
+  asked-counted n =
+      some-sub p by w o (λ m. bit (m .opens) 0) (λ x s. true) (λ x m. refl) (bit-zero 0)
       (λ x s m.
       ap-cond (λ (l : Masks). bit (l .opens) 0) (covers w (sub x s) o) _ m
       ∙ ap (λ (b : Bool). cond (covers w (sub x s) o) b (bit (m .opens) 0))
-      (bit-or (m .opens) _ 0 ∙ ap (λ (b : Bool). bit (m .opens) 0 || b) (enabled (getD w (sub x s) 0) (who / 2 ^ (srcid w x s .0))))
-      ∙ own (bit (m .opens) 0) (bit (getD w (sub x s) 0) 0) _) n
+      (bit-or (m .opens) _ 0 ∙ ap (λ (b : Bool). bit (m .opens) 0 || b) (either (isServed c (srcid w x s .0)) (getD w (sub x s) 0) 0))
+      ∙ own (bit (m .opens) 0) (bit (getD w (sub x s) 0) 0) _ (isServed c (srcid w x s .0))) n
       ∙ any-same n _ _ (λ x h. any-same 2 _ _ (λ s l. and-true (counts w o x s)))
-    where
-      enabled : (cfgr x : ℕ) → bit (bitAnd cfgr (bitOr x 1)) 0 ≡ bit cfgr 0
-      enabled cfgr x =
-          bit-and cfgr (bitOr x 1) 0 ∙ ap (λ (b : Bool). bit cfgr 0 && b) (bit-or x 1 0 ∙ or-true (bit x 0))
-          ∙ and-true (bit cfgr 0)
 
-  asked-open : (d : Bool) (c n : ℕ) → c < 8
-      → bit (masks (serving (askers c (denOf d))) w n o .opens) (denOf d)
+  asked-open : (d : Bool) (n : ℕ) → c < 8
+      → bit (masks p by w n o .opens) (denOf d)
       ≡ someSub w n o (λ x s. (eqb (srcid w x s .0) c || eqb c 7) && bit (getD w (sub x s) 0) (denOf d))
   unfolding masks subGathered
-  asked-open d c n h =
-      some-sub (serving (askers c (denOf d))) w o (λ m. bit (m .opens) (denOf d))
+  asked-open d n h =
+      some-sub p by w o (λ m. bit (m .opens) (denOf d))
       (λ x s. (eqb (srcid w x s .0) c || eqb c 7) && bit (getD w (sub x s) 0) (denOf d)) (λ x m. refl) (bit-zero (denOf d))
       (λ x s m.
       ap-cond (λ (l : Masks). bit (l .opens) (denOf d)) (covers w (sub x s) o) _ m
@@ -93,12 +92,14 @@ module _ (w : List ℕ) (o : ℕ) where
       (bit-or (m .opens) _ (denOf d) ∙ ap (λ (b : Bool). bit (m .opens) (denOf d) || b) (one (getD w (sub x s) 0) (srcid w x s .0) (field-lt _ srcidBit 3)))
       ∙ or-cond (covers w (sub x s) o) (bit (m .opens) (denOf d)) _) n
     where
-      one : (cfgr i : ℕ) → i < 8
-          → bit (bitAnd cfgr (bitOr (askers c (denOf d) / 2 ^ i) 1)) (denOf d) ≡ ((eqb i c || eqb c 7) && bit cfgr (denOf d))
+      one : (cfgr i : ℕ) → i < 8 → bit (cond (isServed c i) cfgr 1) (denOf d) ≡ ((eqb i c || eqb c 7) && bit cfgr (denOf d))
       one cfgr i l =
-          bit-and cfgr (bitOr (askers c (denOf d) / 2 ^ i) 1) (denOf d)
-          ∙ ap (λ (b : Bool). bit cfgr (denOf d) && b) (bit-or (askers c (denOf d) / 2 ^ i) 1 (denOf d) ∙ ap₂ _||_ (served d c i h l) (one-bit d))
-          ∙ and-swap (bit cfgr (denOf d)) (eqb i c || eqb c 7)
+          either (isServed c i) cfgr (denOf d) ∙ ap₂ (λ (s b : Bool). cond s (bit cfgr (denOf d)) b) (served c i h l) (one-bit d)
+          ∙ go (eqb i c || eqb c 7)
+        where
+          go : (s : Bool) → cond s (bit cfgr (denOf d)) false ≡ (s && bit cfgr (denOf d))
+          go true = refl
+          go false = refl
 
 -- ---- the verdict
 
@@ -106,48 +107,51 @@ module _ (w : List ℕ) (n o : ℕ) (k : Kind) (h : k .cid .0 ≤ 7) where
   abbrev den : ℕ
   den = denOf (k .write)
 
+  abbrev p : Bool
+  p = k .privileged
+
   abbrev adds : ℕ → ℕ
-  adds = serving (askers (k .cid .0) den)
+  adds = serving (servedBy (k .cid .0))
 
   abbrev m : Masks
-  m = masks adds w n o
+  m = masks p adds w n o
 
   opened : bit (m .opens) den ≡ someSub w n o (opens w k)
   opened = by (k .write)
     where
       by : (d : Bool)
-          → bit (masks (serving (askers (k .cid .0) (denOf d))) w n o .opens) (denOf d)
+          → bit (m .opens) (denOf d)
           ≡ someSub w n o
           (λ x s.
           (eqb (srcid w x s .0) (k .cid .0) || eqb (k .cid .0) 7) && cond d (bit (getD w (sub x s) 0) wrenBit) (bit (getD w (sub x s) 0) rdenBit))
-      by true = asked-open w o true (k .cid .0) n (omega (arith, h))
-      by false = asked-open w o false (k .cid .0) n (omega (arith, h))
+      by true = asked-open p w o (k .cid .0) true n (omega (arith, h))
+      by false = asked-open p w o (k .cid .0) false n (omega (arith, h))
 
   -- in either direction
   may : (d b : Bool) → bit (cond d (allIf b) (allIf b)) (k .cid .0) ≡ b
-  may true b = all-if adds w n o k h b b refl
-  may false b = all-if adds w n o k h b b refl
+  may true b = all-if p adds w n o k h b b refl
+  may false b = all-if p adds w n o k h b b refl
 
   pub asked-is : covered w n o ≡ true → verdictOf (byAsked den m) k ≡ decided Axi w n o k
   unfolding decided tests byAsked verdictOf bySubs byBases
-  asked-is e = rw e (by (counted w n o) (asked-counted w o (askers (k .cid .0) den) n))
+  asked-is e = rw e (by (counted w n o) (asked-counted p w o (k .cid .0) n))
     where
       by : (c : Bool) → bit (m .opens) 0 ≡ c
           → verdictOf (cond (bit (m .opens) 0) (bySubs m (allIf (bit (m .opens) den)) (allIf (bit (m .opens) den))) (byBases m)) k
           ≡ record { rule = cond c 2 1; reason = reasonOf (cond c (tests2 w n o k) (tests1 w n o k)) }
       by true f =
-          rw f (ap (λ t. record { rule = 2; reason = reasonOf t }) (subs-tests adds w n o k h _ _ (may (k .write) (bit (m .opens) den) ∙ opened)))
-      by false f = rw f (ap (λ t. record { rule = 1; reason = reasonOf t }) (bases-tests adds w n o k h))
+          rw f (ap (λ t. record { rule = 2; reason = reasonOf t }) (subs-tests p adds w n o k h (λ e. e) _ _ (may (k .write) (bit (m .opens) den) ∙ opened)))
+      by false f = rw f (ap (λ t. record { rule = 1; reason = reasonOf t }) (bases-tests p adds w n o k h))
 
   -- in the code's calls, the direction by itself
   governed-as : (d : Bool) → k .write ≡ d → covered w n o ≡ true
-      → packed (verdictOf (byAsked (denOf d) (masks (serving (askers (k .cid .0) (denOf d))) w n o)) (record { cid = k .cid; write = d; privileged = k .privileged; secure = k .secure }))
+      → packed (verdictOf (byAsked (denOf d) m) (record { cid = k .cid; write = d; privileged = k .privileged; secure = k .secure }))
       ≡ governed w n o k
   governed-as d e f = rw (← e) (rw f (ap packed (asked-is f)))
 
   -- where the search found one
   pub found-as : (d : Bool) → k .write ≡ d → {r : ℕ} → Next w o 0 n r → (r ≡ n → ⊥)
-      → packed (verdictOf (byAsked (denOf d) (masks (serving (askers (k .cid .0) (denOf d))) w n o)) (record { cid = k .cid; write = d; privileged = k .privileged; secure = k .secure }))
+      → packed (verdictOf (byAsked (denOf d) m) (record { cid = k .cid; write = d; privileged = k .privileged; secure = k .secure }))
       ≡ governed w n o k
   found-as d e {r} next f =
       let l : r < n = omega (arith, next .high, f) in

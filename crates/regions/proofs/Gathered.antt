@@ -28,28 +28,28 @@ module _ (w : List ℕ) (o from : ℕ) where
           rw same (sym e ∙ out)
 
 -- they say nothing
-pub masks-pass : (adds : ℕ → ℕ) (w : List ℕ) (o r : ℕ) → Passed w o 0 r → masks adds w 0 o ≡ masks adds w r o
+pub masks-pass : (p : Bool) (adds : ℕ → ℕ) (w : List ℕ) (o r : ℕ) → Passed w o 0 r → masks p adds w 0 o ≡ masks p adds w r o
 unfolding masks baseGathered
-masks-pass adds w o zero passed = refl
-masks-pass adds w o (suc r) passed =
-    masks-pass adds w o r (λ y a b. passed y a (omega arith)) ∙ rw (passed r (omega arith) (omega arith)) refl
+masks-pass p adds w o zero passed = refl
+masks-pass p adds w o (suc r) passed =
+    masks-pass p adds w o r (λ y a b. passed y a (omega arith)) ∙ rw (passed r (omega arith) (omega arith)) refl
 
 -- one base region more, by the code's call
-pub masks-more : (adds : ℕ → ℕ) (w : List ℕ) (n o : ℕ) {l m : Masks} → l ≡ masks adds w n o → m ≡ baseGathered adds w n o l
-    → m ≡ masks adds w (n + 1) o
+pub masks-more : (p : Bool) (adds : ℕ → ℕ) (w : List ℕ) (n o : ℕ) {l m : Masks} → l ≡ masks p adds w n o → m ≡ baseGathered p adds w n o l
+    → m ≡ masks p adds w (n + 1) o
 unfolding masks
-masks-more adds w n o el em = em ∙ ap (baseGathered adds w n o) el ∙ sym (ap (λ (i : ℕ). masks adds w i o) (add-one n))
+masks-more p adds w n o el em = em ∙ ap (baseGathered p adds w n o) el ∙ sym (ap (λ (i : ℕ). masks p adds w i o) (add-one n))
 
 -- ---- a subregion, by whether it covers
 
-module _ (adds : ℕ → ℕ) (w : List ℕ) (x s o : ℕ) (m : Masks) where
+module _ (p : Bool) (adds : ℕ → ℕ) (w : List ℕ) (x s o : ℕ) (m : Masks) where
   abbrev counted : Masks
-  counted = withSub (getD w (base x) 0) (getD w (sub x s) 0) (adds (getD w (sub x s) 0)) m
+  counted = withSub p (getD w (base x) 0) (getD w (sub x s) 0) (adds (getD w (sub x s) 0)) m
 
-  pub sub-out : covers w (sub x s) o ≡ false → m ≡ subGathered adds w x s o m
+  pub sub-out : covers w (sub x s) o ≡ false → m ≡ subGathered p adds w x s o m
   unfolding subGathered
   sub-out e = sym (ap (λ (b : Bool). cond b counted m) e)
 
-  pub sub-in : covers w (sub x s) o ≡ true → counted ≡ subGathered adds w x s o m
+  pub sub-in : covers w (sub x s) o ≡ true → counted ≡ subGathered p adds w x s o m
   unfolding subGathered
   sub-in e = sym (ap (λ (b : Bool). cond b counted m) e)

@@ -137,10 +137,10 @@ pub some-same : (w : List ℕ) (n o : ℕ) (p q : ℕ → ℕ → Bool) → ((x 
 some-same w n o p q e =
     any-same n _ _ (λ x h. any-same 2 _ _ (λ s l. ap (λ (b : Bool). counts w o x s && b) (e x s)))
 
-pub counted-is : (w : List ℕ) (n o : ℕ) → not (eqb (masks openings w n o .opens) 0) ≡ counted w n o
+pub counted-is : (w : List ℕ) (n o : ℕ) → not (eqb (masks false openings w n o .opens) 0) ≡ counted w n o
 unfolding masks subGathered
 counted-is w n o =
-    some-sub openings w o (λ m. not (eqb (m .opens) 0)) (λ x s. true) (λ x m. refl) refl
+    some-sub false openings w o (λ m. not (eqb (m .opens) 0)) (λ x s. true) (λ x m. refl) refl
     (λ x s m.
     ap-cond (λ (l : Masks). not (eqb (l .opens) 0)) (covers w (sub x s) o) _ m
     ∙ ap (λ (b : Bool). cond (covers w (sub x s) o) b (not (eqb (m .opens) 0)))
@@ -163,34 +163,34 @@ debugger-bit x c = go (eqb x 0) refl (eqb c 7) refl
 module _ (w : List ℕ) (o at e : ℕ) (own : (x s : ℕ) → Right at (bit (cfgr w x s) e) (opening (cfgr w x s) (id w x s)) (id w x s)) where
   more : (f : ℕ → Bool) (q : ℕ → ℕ → Bool) → ((a b : ℕ) → f (bitOr a b) ≡ (f a || f b))
       → ((x s : ℕ) → f (field (opening (cfgr w x s) (id w x s)) at 8) ≡ q x s) → f (field 0 at 8) ≡ false → (n : ℕ)
-      → f (field (masks openings w n o .opens) at 8) ≡ someSub w n o q
+      → f (field (masks false openings w n o .opens) at 8) ≡ someSub w n o q
   unfolding masks subGathered
   more f q joins adds none n =
-      some-sub openings w o (λ m. f (field (m .opens) at 8)) q (λ x m. refl) none
+      some-sub false openings w o (λ m. f (field (m .opens) at 8)) q (λ x m. refl) none
       (λ x s m.
       ap-cond (λ (l : Masks). f (field (l .opens) at 8)) (covers w (sub x s) o) _ m
       ∙ ap (λ (b : Bool). cond (covers w (sub x s) o) b (f (field (m .opens) at 8)))
       (ap f (field-or (m .opens) _ at) ∙ joins (field (m .opens) at 8) _ ∙ ap (λ (b : Bool). f (field (m .opens) at 8) || b) (adds x s))
       ∙ or-cond (covers w (sub x s) o) (f (field (m .opens) at 8)) (q x s)) n
 
-  any-open : (n : ℕ) → not (eqb (field (masks openings w n o .opens) at 8) 0) ≡ someSub w n o (λ x s. bit (cfgr w x s) e)
+  any-open : (n : ℕ) → not (eqb (field (masks false openings w n o .opens) at 8) 0) ≡ someSub w n o (λ x s. bit (cfgr w x s) e)
   any-open n =
       more (λ y. not (eqb y 0)) (λ x s. bit (cfgr w x s) e) or-some (λ x s. ap not (own x s .1) ∙ Bool·not-not (bit (cfgr w x s) e))
       (ap (λ (y : ℕ). not (eqb y 0)) (field-past 0 0 at 8 (omega arith) (omega arith))) n
 
   srcid-open : (n c : ℕ) → c < 8
-      → bit (field (masks openings w n o .opens) at 8) c ≡ someSub w n o (λ x s. eqb (id w x s) c && bit (cfgr w x s) e)
+      → bit (field (masks false openings w n o .opens) at 8) c ≡ someSub w n o (λ x s. eqb (id w x s) c && bit (cfgr w x s) e)
   srcid-open n c h =
       more (λ y. bit y c) (λ x s. eqb (id w x s) c && bit (cfgr w x s) e) (λ a b. bit-or a b c) (λ x s. own x s .0 c h)
       (bit-field 0 at 8 c h ∙ bit-zero (at + c)) n
 
   pub open-bit : (n c : ℕ) → c < 8
-      → bit (withDebugger (field (masks openings w n o .opens) at 8)) c
+      → bit (withDebugger (field (masks false openings w n o .opens) at 8)) c
       ≡ someSub w n o (λ x s. (eqb (id w x s) c || eqb c 7) && bit (cfgr w x s) e)
-  open-bit n c h = debugger-bit (field (masks openings w n o .opens) at 8) c ∙ go (eqb c 7)
+  open-bit n c h = debugger-bit (field (masks false openings w n o .opens) at 8) c ∙ go (eqb c 7)
     where
       go : (t : Bool)
-          → cond t (not (eqb (field (masks openings w n o .opens) at 8) 0)) (bit (field (masks openings w n o .opens) at 8) c)
+          → cond t (not (eqb (field (masks false openings w n o .opens) at 8) 0)) (bit (field (masks false openings w n o .opens) at 8) c)
           ≡ someSub w n o (λ x s. (eqb (id w x s) c || t) && bit (cfgr w x s) e)
       go true =
           any-open n

@@ -77,7 +77,7 @@ unfoldable pub byMasks : Bus → Masks → Admits
 byMasks bus m = cond (bit (m .some) enableBit) (byRegions m) (byDefault bus)
 
 unfoldable pub admitted : Bus → List ℕ → ℕ → ℕ → Admits
-admitted bus w n o = cond (covered w n o) (byRegions (masks openings w n o)) (byDefault bus)
+admitted bus w n o = cond (covered w n o) (byRegions (masks false openings w n o)) (byDefault bus)
 
 -- ---- as the bus hears them
 

@@ -8,9 +8,11 @@ use lib.Dec.{eqb}
 use lib.ListN.{getD}
 use Rattle.words.specs.Bit.{bit, field}
 use Rattle.access.specs.Fold.{any}
-use Rattle.regions.specs.Words.{base, sub, cidcfgrAt, enableBit, srcidBit, rdenBit, wrenBit}
+use Rattle.access.specs.Kind.{debugger}
+use Rattle.regions.specs.Words.{base, sub, cidcfgrAt, enableBit, privBit, privcBit, srcidBit, rdenBit, wrenBit}
 use Rattle.regions.specs.Rules.{covers}
 use Rattle.regions.specs.declared.masks.Masks.{Masks}
+use Rattle.regions.specs.declared.masks.Served.{Served}
 
 -- ---- one base region more
 
@@ -22,14 +24,13 @@ opening cfgr i = (cfgr / 2 ^ rdenBit % 2 + 0x100 + cfgr / 2 ^ wrenBit % 2 * 0x1_
 abbrev pub openings : ℕ → ℕ
 openings cfgr = opening cfgr (field cfgr srcidBit 3)
 
--- of one asking, whose direction bit `den` of CFGR enables: the same. Bit 0, which is 1 where the subregion counts, and bit den, where its
--- SRCID is one of the askers
-abbrev pub serving : ℕ → ℕ → ℕ
-serving who cfgr = bitAnd cfgr (bitOr (who / 2 ^ field cfgr srcidBit 3) 1)
+-- the SRCIDs that serve compartment c, its own; CID 7 every one serves
+abbrev pub servedBy : ℕ → Served
+servedBy c = cond (eqb c (debugger .0)) (record { mask = 0; srcid = 0 }) (record { mask = 2 ^ 3 - 1; srcid = c })
 
--- the SRCIDs that serve compartment c, SRCID i at bit den + i
-abbrev pub askers : ℕ → ℕ → ℕ
-askers c den = cond (eqb c 7) (0xff * 2 ^ den % 2 ^ 32) (1 * 2 ^ (c + den) % 2 ^ 32)
+-- of one asking, the same: CFGR, where it has an SRCID that serves, else its enable alone, which is 1 where the subregion counts
+abbrev pub serving : Served → ℕ → ℕ
+serving by cfgr = cond (eqb (bitAnd (field cfgr srcidBit 3) (by .mask)) (by .srcid)) cfgr 1
 
 -- with the words of a base region that covers
 abbrev pub withBase : ℕ → ℕ → Masks → Masks
@@ -43,32 +44,33 @@ withBase cfgr cidcfgr m =
       opens = m .opens;
     }
 
--- with CFGR of a subregion that counts, and of its base region; opens is what it adds there
-abbrev pub withSub : ℕ → ℕ → ℕ → Masks → Masks
-withSub base sub opens m =
+-- with CFGR of a subregion that counts, and of its base region; opens is what it adds there. Where all is for a privileged asking, PRIV is
+-- not looked at
+abbrev pub withSub : Bool → ℕ → ℕ → ℕ → Masks → Masks
+withSub p base sub opens m =
     let i = field sub srcidBit 3 in
     record {
       some = m .some;
       every = m .every;
       enables = m .enables;
       secure = bitAnd (m .secure) (bitAnd sub base);
-      privileged = bitAnd (m .privileged) (bitAnd sub (base / 2 ^ i / 2 ^ 7));
+      privileged = cond p (m .privileged) (bitAnd (m .privileged) (bitAnd sub (base / 2 ^ i / 2 ^ (privcBit 0 - privBit))));
       opens = bitOr (m .opens) opens;
     }
 
 -- with subregion s of a base region that covers; adds says what a subregion's CFGR adds to `opens`
-unfoldable pub subGathered : (ℕ → ℕ) → List ℕ → ℕ → ℕ → ℕ → Masks → Masks
-subGathered adds w x s o m =
-    cond (covers w (sub x s) o) (withSub (getD w (base x) 0) (getD w (sub x s) 0) (adds (getD w (sub x s) 0)) m) m
+unfoldable pub subGathered : Bool → (ℕ → ℕ) → List ℕ → ℕ → ℕ → ℕ → Masks → Masks
+subGathered p adds w x s o m =
+    cond (covers w (sub x s) o) (withSub p (getD w (base x) 0) (getD w (sub x s) 0) (adds (getD w (sub x s) 0)) m) m
 
 -- with base region x, which covers, and its subregions
-abbrev pub insideGathered : (ℕ → ℕ) → List ℕ → ℕ → ℕ → Masks → Masks
-insideGathered adds w x o m =
-    subGathered adds w x 1 o (subGathered adds w x 0 o (withBase (getD w (base x) 0) (getD w (base x + cidcfgrAt) 0) m))
+abbrev pub insideGathered : Bool → (ℕ → ℕ) → List ℕ → ℕ → ℕ → Masks → Masks
+insideGathered p adds w x o m =
+    subGathered p adds w x 1 o (subGathered p adds w x 0 o (withBase (getD w (base x) 0) (getD w (base x + cidcfgrAt) 0) m))
 
 -- with base region x and its subregions: nothing where it does not cover
-unfoldable pub baseGathered : (ℕ → ℕ) → List ℕ → ℕ → ℕ → Masks → Masks
-baseGathered adds w x o m = cond (covers w (base x) o) (insideGathered adds w x o m) m
+unfoldable pub baseGathered : Bool → (ℕ → ℕ) → List ℕ → ℕ → ℕ → Masks → Masks
+baseGathered p adds w x o m = cond (covers w (base x) o) (insideGathered p adds w x o m) m
 
 -- of none
 abbrev pub noneGathered : Masks
@@ -83,9 +85,9 @@ noneGathered =
     }
 
 -- of n base regions
-unfoldable pub masks : (ℕ → ℕ) → List ℕ → ℕ → ℕ → Masks
-masks adds w zero o = noneGathered
-masks adds w (suc n) o = baseGathered adds w n o (masks adds w n o)
+unfoldable pub masks : Bool → (ℕ → ℕ) → List ℕ → ℕ → ℕ → Masks
+masks p adds w zero o = noneGathered
+masks p adds w (suc n) o = baseGathered p adds w n o (masks p adds w n o)
 
 -- ---- the search for a base region that covers
 

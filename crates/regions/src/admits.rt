@@ -28,10 +28,10 @@ const ALL: u32 = 0xff;
 
 const DEBUGGERS: u32 = 0x80;
 
-pub(crate) const DEFAULTS: u32 = 0x82;
+const DEFAULTS: u32 = 0x82;
 
 // The compartments that rule 0 admits.
-fn defaults(bus: Bus) -> u32
+pub(crate) fn defaults(bus: Bus) -> u32
     ensures { λ r. ⌜ r ≡ defaults bus ⌝ }
 {
     match bus {

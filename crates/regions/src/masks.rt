@@ -13,14 +13,15 @@ use crate::places::START;
 use crate::places::SUBREGION_WORDS;
 use crate::places::WREN;
 use access::Cid;
+use access::DEBUGGER;
 ghost use mathlib.Core.Path.{_≡_};
 ghost use Prim.Native.Nat.{_+_, _*_, _≤_, _<_};
 ghost use lib.ListN.{length};
-ghost use mathlib.Core.Bool.{not};
+ghost use mathlib.Core.Bool.{false, not, true};
 ghost use Rattle.words.specs.Bit.{field};
 ghost use Rattle.regions.specs.Words.{base, endAt, mostRegions, regionWords, srcidBit};
 ghost use Rattle.regions.specs.Rules.{covers};
-ghost use Rattle.regions.specs.Masks.{Next, Passed, baseGathered, masks, noneGathered, opening, openings, serving, someEnabled, subGathered, withBase, withSub};
+ghost use Rattle.regions.specs.Masks.{Next, Passed, baseGathered, masks, noneGathered, opening, openings, servedBy, serving, someEnabled, subGathered, withBase, withSub};
 
 // What the base regions that cover say, of those that were looked at.
 pub(crate) struct Masks {
@@ -32,8 +33,27 @@ pub(crate) struct Masks {
     pub(crate) secure: u32,
     pub(crate) privileged: u32,
     // For the rights of all, the SRCIDs of those that enable reads, from bit 0; of all that count, from bit 8; of those that enable
-    // writes, from bit 16. For one asking, bit 0 where some count, and the bit that enables its direction where one of them serves it.
+    // writes, from bit 16. For one asking, bit 0 where some count, and the bits that CFGR has of those that serve it.
     pub(crate) opens: u32,
+}
+
+// The SRCIDs that serve a compartment: those that have `srcid` in the bits of `mask`.
+pub(crate) struct Served {
+    mask: u32,
+    srcid: u32,
+}
+
+// Its own; every one serves the debugger.
+pub(crate) fn served_by(cid: Cid) -> Served
+    ensures { λ r. ⌜ r ≡ servedBy (cid .0) ⌝ }
+{
+    if cid.equals(DEBUGGER) {
+        return Served { mask: 0, srcid: 0 };
+    }
+    Served {
+        mask: COMPARTMENTS - 1,
+        srcid: cid.0,
+    }
 }
 
 // Where none was looked at.
@@ -82,11 +102,14 @@ pub(crate) fn openings(cfgr: u32) -> u32
     opening(cfgr, srcid(cfgr))
 }
 
-// The same for one asking. SRCID i serves it where who has the bit that is i above the direction's.
-fn serving(who: u32, cfgr: u32) -> u32
-    ensures { λ r. ⌜ r ≡ serving who cfgr ⌝ }
+// The same for one asking: CFGR where its SRCID serves, else the enable alone.
+fn serving(by: Served, cfgr: u32) -> u32
+    ensures { λ r. ⌜ r ≡ serving by cfgr ⌝ }
 {
-    cfgr & ((who >> srcid(cfgr).0) | 1)
+    if (srcid(cfgr).0 & by.mask) == by.srcid {
+        return cfgr;
+    }
+    1 << ENABLE
 }
 
 // With the words of a base region that covers.
@@ -105,7 +128,7 @@ pub(crate) fn with_base(cfgr: u32, cidcfgr: u32, m: Masks) -> Masks
 
 // With CFGR of a subregion that counts, and of its base region; opens is what it adds there.
 pub(crate) fn with_sub(base: u32, sub: u32, opens: u32, m: Masks) -> Masks
-    ensures { λ r. ⌜ r ≡ withSub base sub opens m ⌝ }
+    ensures { λ r. ⌜ r ≡ withSub false base sub opens m ⌝ }
 {
     let srcid = srcid(sub);
     let opens = m.opens | opens;
@@ -119,29 +142,57 @@ pub(crate) fn with_sub(base: u32, sub: u32, opens: u32, m: Masks) -> Masks
     }
 }
 
+// The same for a privileged asking, for which PRIV need not be looked at: a shift less.
+fn with_sub_privileged(base: u32, sub: u32, opens: u32, m: Masks) -> Masks
+    ensures { λ r. ⌜ r ≡ withSub true base sub opens m ⌝ }
+{
+    let opens = m.opens | opens;
+    Masks {
+        some: m.some,
+        every: m.every,
+        enables: m.enables,
+        secure: m.secure & (sub & base),
+        privileged: m.privileged,
+        opens,
+    }
+}
+
 // With what subregion s of base region x, which covers, says.
-fn sub_gathered(w: &[u32], x: usize, s: usize, o: u32, who: u32, m: Masks) -> Masks
+fn sub_gathered(
+    w: &[u32],
+    x: usize,
+    s: usize,
+    o: u32,
+    by: Served,
+    privileged: bool,
+    m: Masks,
+) -> Masks
     requires { ⌜ (base x + regionWords ≤ length (now w)) × (s < 2) ⌝ }
-    ensures { λ r. ⌜ r ≡ subGathered (serving who) (now (w .entry)) x s o m ⌝ }
+    ensures { λ r. ⌜ r ≡ subGathered privileged (serving by) (now (w .entry)) x s o m ⌝ }
 {
     let p = REGION_WORDS * x + BASE_WORDS + SUBREGION_WORDS * s;
     if !covers(w, p, o) {
         return m;
     }
-    with_sub(w[REGION_WORDS * x], w[p], serving(who, w[p]), m)
+    let opens = serving(by, w[p]);
+    if privileged {
+        return with_sub_privileged(w[REGION_WORDS * x], w[p], opens, m);
+    }
+    with_sub(w[REGION_WORDS * x], w[p], opens, m)
 }
 
 // With what base region x and its subregions say: nothing where it does not cover.
-fn base_gathered(w: &[u32], x: usize, o: u32, who: u32, m: Masks) -> Masks
+fn base_gathered(w: &[u32], x: usize, o: u32, by: Served, privileged: bool, m: Masks) -> Masks
     requires { ⌜ base x + regionWords ≤ length (now w) ⌝ }
-    ensures { λ r. ⌜ r ≡ baseGathered (serving who) (now (w .entry)) x o m ⌝ }
+    ensures { λ r. ⌜ r ≡ baseGathered privileged (serving by) (now (w .entry)) x o m ⌝ }
 {
     let b = REGION_WORDS * x;
     if !covers(w, b, o) {
         return m;
     }
     let based = with_base(w[b], w[b + CIDCFGR], m);
-    sub_gathered(w, x, 1, o, who, sub_gathered(w, x, 0, o, who, based))
+    let first = sub_gathered(w, x, 0, o, by, privileged, based);
+    sub_gathered(w, x, 1, o, by, privileged, first)
 }
 
 // Whether no base region is enabled, of the most that there may be. One that a guard does not have may hold anything.
@@ -172,13 +223,20 @@ pub(crate) fn next_covering(w: &[u32], from: usize, n: usize, o: u32) -> usize
 }
 
 // What the first n base regions say to one asking: none below `from` covers.
-pub(crate) fn gathered(w: &[u32], from: usize, n: usize, o: u32, who: u32) -> Masks
+pub(crate) fn gathered(
+    w: &[u32],
+    from: usize,
+    n: usize,
+    o: u32,
+    by: Served,
+    privileged: bool,
+) -> Masks
     requires { ⌜ (from ≤ n) × (base n ≤ length (now w)) × Passed (now w) o 0 from ⌝ }
-    ensures { λ r. ⌜ r ≡ masks (serving who) (now (w .entry)) n o ⌝ }
+    ensures { λ r. ⌜ r ≡ masks privileged (serving by) (now (w .entry)) n o ⌝ }
 {
     let mut m = none_gathered();
     for x in from..n {
-        m = base_gathered(w, x, o, who, m);
+        m = base_gathered(w, x, o, by, privileged, m);
     }
     m
 }

@@ -1,11 +1,12 @@
 use crate::admits::Admits;
-use crate::admits::DEFAULTS;
 use crate::admits::admits_security;
 use crate::admits::by_asked;
+use crate::admits::defaults;
 use crate::admits::open_to;
 use crate::masks::gathered;
 use crate::masks::next_covering;
 use crate::masks::none_enabled;
+use crate::masks::served_by;
 use crate::places::MOST_REGIONS;
 use crate::places::RDEN;
 use crate::places::REGION_WORDS;
@@ -21,7 +22,7 @@ ghost use Rattle.access.specs.Kind.{debugger};
 ghost use Rattle.regions.specs.Lent.{decidedIn};
 ghost use Rattle.regions.specs.Rules.{isDefault, reasonOf, tests0};
 ghost use Rattle.regions.specs.Admits.{byAsked, governed, packed, testsOf, verdictOf};
-ghost use Rattle.regions.specs.Masks.{Passed, askers, masks, serving};
+ghost use Rattle.regions.specs.Masks.{Passed, masks, servedBy, serving};
 ghost use Rattle.regions.specs.Words.{base, mostRegions, wrenBit};
 
 // The rule that governs an offset (0 default, 1 base region, 2 subregion), and the first of its tests that fails: NO_REASON where the
@@ -75,10 +76,7 @@ fn is_default(bus: Bus, k: Kind) -> bool
     requires { ⌜ k .cid .0 ≤ debugger .0 ⌝ }
     ensures { λ r. ⌜ r ≡ isDefault bus k ⌝ }
 {
-    match bus {
-        Bus::Axi => (DEFAULTS >> k.cid.0) % 2 == 1,
-        Bus::Ahb => true,
-    }
+    (defaults(bus) >> k.cid.0) % 2 == 1
 }
 
 // The first test of rule 0 that a kind of asking fails.
@@ -98,17 +96,6 @@ fn default_reason(bus: Bus, k: Kind) -> u32
     COMPARTMENT
 }
 
-// The SRCIDs that serve a compartment, SRCID i at bit den + i.
-fn askers(cid: Cid, den: u32) -> u32
-    requires { ⌜ (cid .0 ≤ debugger .0) × (den ≤ wrenBit) ⌝ }
-    ensures { λ r. ⌜ r ≡ askers (cid .0) den ⌝ }
-{
-    if cid.equals(DEBUGGER) {
-        return 0xff << den;
-    }
-    1 << (cid.0 + den)
-}
-
 // The verdict of rule 1 or 2, packed. None of the base regions below `first` covers. Bit den of a subregion's CFGR enables the direction.
 fn by_regions(
     w: &[u32],
@@ -122,9 +109,11 @@ fn by_regions(
     den: u32,
 ) -> u32
     requires { ⌜ (first ≤ n) × (base n ≤ length (now w)) × Passed (now w) o 0 first × (cid .0 ≤ debugger .0) × (den ≤ wrenBit) ⌝ }
-    ensures { λ r. ⌜ r ≡ packed (verdictOf (byAsked den (masks (serving (askers (cid .0) den)) (now (w .entry)) n o)) (record { cid = cid; write = write; privileged = privileged; secure = secure })) ⌝ }
+    ensures { λ r. ⌜ r ≡ packed (verdictOf (byAsked den (masks privileged (serving (servedBy (cid .0))) (now (w .entry)) n o)) (record { cid = cid; write = write; privileged = privileged; secure = secure })) ⌝ }
 {
-    let m = gathered(w, first, n, o, askers(cid, den));
+    // A part that is the whole: a slice made here is known to the compiler, which then hands w on in registers.
+    let words = &w[0..];
+    let m = gathered(words, first, n, o, served_by(cid), privileged);
     let k = Kind {
         cid,
         write,

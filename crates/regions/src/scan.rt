@@ -12,6 +12,7 @@ use crate::places::END;
 use crate::places::REGION_WORDS;
 use crate::places::START;
 use crate::places::SUBREGION_WORDS;
+ghost use mathlib.Core.Bool.{false};
 ghost use mathlib.Core.Path.{_≡_};
 ghost use Prim.Native.Nat.{_+_, _≤_, _<_};
 ghost use lib.ListN.{length};
@@ -28,7 +29,7 @@ pub(crate) struct Scan {
 // With subregion s of base region x, which covers: START alone is ahead before it, and nothing past END.
 fn sub_scanned(w: &[u32], x: usize, s: usize, o: u32, scan: Scan) -> Scan
     requires { ⌜ (base x + regionWords ≤ length (now w)) × (s < 2) ⌝ }
-    ensures { λ r. ⌜ r .masks ≡ subGathered openings (now (w .entry)) x s o (scan .masks) ⌝ }
+    ensures { λ r. ⌜ r .masks ≡ subGathered false openings (now (w .entry)) x s o (scan .masks) ⌝ }
     ensures { λ r. ⌜ r .to ≡ subAhead (now (w .entry)) (sub x s) o (scan .to) ⌝ }
 {
     let b = REGION_WORDS * x;
@@ -55,7 +56,7 @@ fn sub_scanned(w: &[u32], x: usize, s: usize, o: u32, scan: Scan) -> Scan
 // With base region x, which covers, and its subregions.
 fn inside_scanned(w: &[u32], x: usize, o: u32, s: Scan) -> Scan
     requires { ⌜ base x + regionWords ≤ length (now w) ⌝ }
-    ensures { λ r. ⌜ r .masks ≡ insideGathered openings (now (w .entry)) x o (s .masks) ⌝ }
+    ensures { λ r. ⌜ r .masks ≡ insideGathered false openings (now (w .entry)) x o (s .masks) ⌝ }
     ensures { λ r. ⌜ r .to ≡ insideAhead (now (w .entry)) x o (s .to) ⌝ }
 {
     let b = REGION_WORDS * x;
@@ -70,7 +71,7 @@ fn inside_scanned(w: &[u32], x: usize, o: u32, s: Scan) -> Scan
 // it covers.
 fn base_scanned(w: &[u32], x: usize, o: u32, s: Scan) -> Scan
     requires { ⌜ base x + regionWords ≤ length (now w) ⌝ }
-    ensures { λ r. ⌜ r .masks ≡ baseGathered openings (now (w .entry)) x o (s .masks) ⌝ }
+    ensures { λ r. ⌜ r .masks ≡ baseGathered false openings (now (w .entry)) x o (s .masks) ⌝ }
     ensures { λ r. ⌜ r .to ≡ baseAhead (now (w .entry)) x o (s .to) ⌝ }
 {
     let b = REGION_WORDS * x;
@@ -93,7 +94,7 @@ fn base_scanned(w: &[u32], x: usize, o: u32, s: Scan) -> Scan
 // With the first n base regions, in one pass.
 pub(crate) fn scanned(w: &[u32], n: usize, o: u32, to: u64) -> Scan
     requires { ⌜ base n ≤ length (now w) ⌝ }
-    ensures { λ r. ⌜ r .masks ≡ masks openings (now (w .entry)) n o ⌝ }
+    ensures { λ r. ⌜ r .masks ≡ masks false openings (now (w .entry)) n o ⌝ }
     ensures { λ r. ⌜ r .to ≡ ahead (now (w .entry)) n o to ⌝ }
 {
     let mut s = Scan {

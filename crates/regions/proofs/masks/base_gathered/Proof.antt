@@ -16,7 +16,7 @@ returns-2 c =
     let b = d .before .before .before in
     simp (← b .before .covers .ensures, not-false (b .before .covers .result) (b .if1 .left))
     (c .sub-gathered2 .ensures
-    ∙ ap (subGathered _ _ _ 1 _) (c .before .sub-gathered .ensures ∙ ap (subGathered _ _ _ 0 _) (d .with-base .ensures)))
+    ∙ ap (subGathered _ _ _ _ 1 _) (c .before .sub-gathered .ensures ∙ ap (subGathered _ _ _ _ 0 _) (d .with-base .ensures)))
 
 pub base-gathered-spec : {M : Type 1} → statement M
 base-gathered-spec =

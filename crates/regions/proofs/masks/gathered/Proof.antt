@@ -8,20 +8,20 @@ use Rattle.regions.proofs.masks.gathered.Statement.{statement}
 use Rattle.regions.proofs.masks.gathered.Tie as tie
 
 abbrev Inv-loop : tie.InvT-loop
-Inv-loop w from n o who m₀ x₀ m x = (x ≤ n) × (m ≡ masks (serving who) w x o)
+Inv-loop w from n o by privileged m₀ x₀ m x = (x ≤ n) × (m ≡ masks privileged (serving by) w x o)
 
 abbrev μ-loop : tie.MeasureT-loop
-μ-loop w from n o who m₀ x₀ m x = n - x
+μ-loop w from n o by privileged m₀ x₀ m x = n - x
 
 loop-holds : tie.Need-loop-holds Inv-loop μ-loop
 unfolding masks
 loop-holds c =
     let p = c .before .before .pre in
     let a = c .before .before .args in
-    (p .0, c .none-gathered .ensures ∙ masks-pass (serving (a .who)) (a .w .now) (a .o) (a .from) (p .2))
+    (p .0, c .none-gathered .ensures ∙ masks-pass (a .privileged) (serving (a .by)) (a .w .now) (a .o) (a .from) (p .2))
 
 loop-again : tie.Need-loop-again Inv-loop μ-loop
-loop-again c = (search needs, masks-more _ _ _ _ (c .before .before .loop .inv .1) (c .base-gathered .ensures))
+loop-again c = (search needs, masks-more _ _ _ _ _ (c .before .before .loop .inv .1) (c .base-gathered .ensures))
 
 returns : tie.Need-returns Inv-loop μ-loop
 returns c =

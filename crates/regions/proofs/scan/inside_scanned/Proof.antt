@@ -11,7 +11,7 @@ returns c =
     let r = c .sub-scanned2 .ensures in
     let q = c .before .sub-scanned .ensures in
     let d = c .before .before in (
-      r .0 ∙ ap (subGathered _ _ _ 1 _) (q .0 ∙ ap (subGathered _ _ _ 0 _) (d .before .before .with-base .ensures)),
+      r .0 ∙ ap (subGathered _ _ _ _ 1 _) (q .0 ∙ ap (subGathered _ _ _ _ 0 _) (d .before .before .with-base .ensures)),
       r .1 ∙ ap (subAhead _ _ _) (q .1 ∙ ap (subAhead _ _ _) (d .end-ahead .ensures)),
     )
 

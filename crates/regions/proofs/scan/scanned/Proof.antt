@@ -1,4 +1,5 @@
 -- `regions::scan::scanned` meets its contract. The loop's invariant: what the base regions passed say, and what they have ahead.
+use mathlib.Core.Bool.{false}
 use mathlib.Core.Path.{_≡_}
 use Prim.Native.Nat.{_≤_, _-_}
 use native.Mathlib.Omega.{arith}
@@ -11,7 +12,7 @@ use Rattle.regions.proofs.scan.scanned.Statement.{statement}
 use Rattle.regions.proofs.scan.scanned.Tie as tie
 
 abbrev Inv-loop : tie.InvT-loop
-Inv-loop w n o to s₀ x₀ s x = (x ≤ n) × (s .masks ≡ masks openings w x o) × (s .to ≡ ahead w x o to)
+Inv-loop w n o to s₀ x₀ s x = (x ≤ n) × (s .masks ≡ masks false openings w x o) × (s .to ≡ ahead w x o to)
 
 abbrev μ-loop : tie.MeasureT-loop
 μ-loop w n o to s₀ x₀ s x = n - x
@@ -24,7 +25,7 @@ loop-again : tie.Need-loop-again Inv-loop μ-loop
 loop-again c =
     let l = c .before .before .loop .inv in
     let r = c .base-scanned .ensures in
-    (search needs, masks-more _ _ _ _ (l .1) (r .0), ahead-more _ _ _ _ (l .2) (r .1))
+    (search needs, masks-more _ _ _ _ _ (l .1) (r .0), ahead-more _ _ _ _ (l .2) (r .1))
 
 returns : tie.Need-returns Inv-loop μ-loop
 returns c =

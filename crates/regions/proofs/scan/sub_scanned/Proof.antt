@@ -14,7 +14,7 @@ unfolding subAhead
 returns c =
     let a = c .before .before .before .args in
     let e = ahead-off (a .w .now) (sub (a .x) (a .s)) (a .o) (λ t. t) (a .scan .to) (ne-eqb _ _ (c .if1 .taken)) in
-    (sub-out _ _ _ _ _ _ (e .1), e .0)
+    (sub-out _ _ _ _ _ _ _ (e .1), e .0)
 
 returns-2 : tie.Need-returns-2
 unfolding subAhead
@@ -23,7 +23,7 @@ returns-2 c =
     let b = c .before .before .before in
     let on = eq-eqb _ _ (b .before .before .if1 .left) in
     let e = ahead-before (a .w .now) (sub (a .x) (a .s)) (a .o) (λ t. t) (a .scan .to) on (b .if2 .taken) in
-    (sub-out _ _ _ _ _ _ (e .1), c .start-ahead .ensures ∙ e .0)
+    (sub-out _ _ _ _ _ _ _ (e .1), c .start-ahead .ensures ∙ e .0)
 
 returns-3 : tie.Need-returns-3
 unfolding subAhead
@@ -32,7 +32,7 @@ returns-3 c =
     let b = c .before .before in
     let on = eq-eqb _ _ (b .before .before .if1 .left) in
     let e = ahead-past (a .w .now) (sub (a .x) (a .s)) (a .o) (λ t. t) (a .scan .to) on (b .if2 .left) (c .if3 .taken) in
-    (sub-out _ _ _ _ _ _ (e .1), e .0)
+    (sub-out _ _ _ _ _ _ _ (e .1), e .0)
 
 returns-4 : tie.Need-returns-4
 unfolding subAhead
@@ -43,7 +43,7 @@ returns-4 c =
     let b = d .before .before in
     let on = eq-eqb _ _ (b .before .before .if1 .left) in
     let e = ahead-inside (a .w .now) (sub (a .x) (a .s)) (a .o) (λ t. t) (a .scan .to) on (b .if2 .left) (d .if3 .left) in
-    (r .with-sub .ensures ∙ rw (r .before .openings .ensures) (sub-in _ _ _ _ _ _ (e .1)), c .end-ahead .ensures ∙ e .0)
+    (r .with-sub .ensures ∙ rw (r .before .openings .ensures) (sub-in _ _ _ _ _ _ _ (e .1)), c .end-ahead .ensures ∙ e .0)
 
 pub sub-scanned-spec : {M : Type 1} → statement M
 sub-scanned-spec =
