@@ -136,8 +136,8 @@ pub(crate) fn by_masks(bus: Bus, m: Masks) -> Admits
     by_regions(m)
 }
 
-// All compartments as CID 0.
-fn all_as_zero(a: Admits) -> Admits
+// All compartments as CID 0, as AHB hears them.
+pub(crate) fn all_as_zero(a: Admits) -> Admits
     ensures { λ r. ⌜ r ≡ asHeard Ahb a ⌝ }
 {
     let closed = all_if((a.closed >> 0) % 2 == 1);
@@ -150,16 +150,6 @@ fn all_as_zero(a: Admits) -> Admits
         closed,
         reads,
         writes,
-    }
-}
-
-// Each compartment as the one that the bus hears it as.
-pub(crate) fn as_heard(bus: Bus, a: Admits) -> Admits
-    ensures { λ r. ⌜ r ≡ asHeard bus a ⌝ }
-{
-    match bus {
-        Bus::Axi => a,
-        Bus::Ahb => all_as_zero(a),
     }
 }
 

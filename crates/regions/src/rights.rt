@@ -1,8 +1,9 @@
 use crate::admits::Admits;
 use crate::admits::admits_security;
-use crate::admits::as_heard;
+use crate::admits::all_as_zero;
 use crate::admits::by_masks;
 use crate::admits::open_to;
+use crate::masks::Masks;
 use crate::places::MOST_REGIONS;
 use crate::places::REGION_WORDS;
 use crate::scan::scanned;
@@ -11,7 +12,7 @@ ghost use mathlib.Core.Bool.{false};
 ghost use mathlib.Core.Path.{_≡_};
 ghost use Rattle.regions.specs.Ahead.{aheadIn};
 ghost use Rattle.regions.specs.Lent.{rightsIn};
-ghost use Rattle.regions.specs.Admits.{byteAt, byteOf, rightsFrom};
+ghost use Rattle.regions.specs.Admits.{asHeard, byMasks, byteAt, byteOf, rightsFrom};
 
 // The byte of the rights word for a direction, a privilege and a security, bit c for CID c.
 fn byte(a: Admits, write: bool, privileged: bool, secure: bool) -> u32
@@ -54,6 +55,16 @@ pub struct Stretch {
     pub to: u64,
 }
 
+// The rights word by what the regions say. Each bus by itself: on AXI nothing is left to be heard.
+fn rights_by(bus: Bus, m: Masks) -> u64
+    ensures { λ r. ⌜ r ≡ rightsFrom (asHeard bus (byMasks bus m)) 0 64 ⌝ }
+{
+    match bus {
+        Bus::Axi => word(by_masks(Bus::Axi, m)),
+        Bus::Ahb => word(all_as_zero(by_masks(Bus::Ahb, m))),
+    }
+}
+
 // The stretch from an offset on, by the words of n base regions: up to a boundary of theirs that is ahead, or to `to` where that is
 // nearer. Where the words are too few, no rights up to `to`.
 pub fn stretch_at(bus: Bus, w: &[u32], n: usize, o: u32, to: u64) -> Stretch
@@ -69,7 +80,7 @@ pub fn stretch_at(bus: Bus, w: &[u32], n: usize, o: u32, to: u64) -> Stretch
     }
     let s = scanned(w, n, o, to);
     Stretch {
-        rights: word(as_heard(bus, by_masks(bus, s.masks))),
+        rights: rights_by(bus, s.masks),
         to: s.to,
     }
 }

@@ -21,16 +21,14 @@ returns-2 c = simp (le-leb _ _ (c .before .if1 .left), lt-leb _ _ (c .if2 .taken
 returns-3 : tie.Need-returns-3
 unfolding rightsIn aheadIn
 returns-3 c =
-    let g = c .before .before .before in
+    let g = c .before in
     let b = g .before in
     let a = b .before .before .before .args in
     let s = g .scanned .ensures in
     simp (le-leb _ _ (b .before .if1 .left), le-leb _ _ (b .if2 .left)) (
-      c .word .ensures
-          ∙ ap (λ (x : Admits). rightsFrom x 0 64)
-          (c .before .as-heard .ensures
-          ∙ ap (asHeard (a .bus))
-          (c .before .before .by-masks .ensures ∙ ap (byMasks (a .bus)) (s .0) ∙ masks-found (a .bus) (a .w .now) (a .n) (a .o)))
+      c .rights-by .ensures
+          ∙ ap (λ (x : Admits). rightsFrom (asHeard (a .bus) x) 0 64)
+          (ap (byMasks (a .bus)) (s .0) ∙ masks-found (a .bus) (a .w .now) (a .n) (a .o))
           ∙ rights-admitted (a .bus) (a .w .now) (a .n) (a .o),
       s .1,
     )
@@ -38,5 +36,4 @@ returns-3 c =
 pub stretch-at-spec : {M : Type 1} → statement M
 stretch-at-spec =
     tie.close
-    (tie.spec returns (λ c. search needs) returns-2 (λ c κs. search needs) (λ c κs. search needs) (λ c κs. search needs)
-    (λ c κs. search needs) returns-3)
+    (tie.spec returns (λ c. search needs) returns-2 (λ c κs. search needs) (λ c κs. search needs) returns-3)
