@@ -44,19 +44,7 @@ fn one(state: &mut [u32], answers: &mut [u64], i: usize, a: MemoryAccess)
     ensures { λ _. ⌜ (now (state .exit) ≡ appliedState (Memory a) (now (state .entry)))
         × (now (answers .exit) ≡ set (now (answers .entry)) i (encodedOf (appliedAnswer (Memory a) (now (state .entry))))) ⌝ }
 {
-    let guard = a.guard;
-    let kind = a.kind;
-    let cid = kind.cid;
-    let answer = device::memory_encoded(
-        state,
-        guard,
-        a.offset,
-        a.width,
-        kind.write,
-        cid,
-        kind.secure,
-        kind.privileged,
-    );
+    let answer = device::memory_encoded(state, a.guard, a.offset, a.width, a.kind);
     answers[i] = answer;
 }
 

@@ -4,6 +4,7 @@ use crate::numbers::block_numbered;
 use crate::numbers::operation_numbered;
 use access::Answer;
 use access::Cid;
+use access::Kind;
 use access::Request;
 use access::Why;
 use device::MasterAccess;
@@ -109,16 +110,13 @@ pub extern "C" fn rif_memory(
     ensures answer { λ r. ⌜ r ≡ encodedOf (appliedAnswer (memoryEvent guard offset width write cid secure privileged) (now (state .entry))) ⌝ }
     ensures next { λ _. ⌜ now (state .exit) ≡ appliedState (memoryEvent guard offset width write cid secure privileged) (now (state .entry)) ⌝ }
 {
-    device::memory_encoded(
-        state,
-        GuardNumber(guard),
-        offset,
-        width,
+    let kind = Kind {
+        cid: Cid(cid),
         write,
-        Cid(cid),
-        secure,
         privileged,
-    )
+        secure,
+    };
+    device::memory_encoded(state, GuardNumber(guard), offset, width, kind)
 }
 
 #[no_mangle]

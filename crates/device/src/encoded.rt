@@ -5,7 +5,6 @@ use crate::event::MasterAccess;
 use crate::event::MemoryAccess;
 use crate::layout::STATE_WORDS;
 use access::Answer;
-use access::Cid;
 use access::Kind;
 use access::Why;
 use risaf::GuardNumber;
@@ -15,33 +14,29 @@ ghost use Rattle.device.specs.Applied.{appliedAnswer, appliedState};
 ghost use Rattle.device.specs.Encoded.{memoryAsked};
 ghost use Rattle.device.specs.declared.event.Event.the-variants.{Master};
 
-// The arguments come one by one, in C's order, so that they stay in registers too.
+// The arguments come one by one, so that they stay in registers too: a Kind is eight bytes, and goes in one.
 pub fn memory_encoded(
     state: &mut [u32],
     guard: GuardNumber,
     offset: u32,
     width: u32,
-    write: bool,
-    cid: Cid,
-    secure: bool,
-    privileged: bool,
+    kind: Kind,
 ) -> u64
-    ensures answer { λ r. ⌜ r ≡ encodedOf (appliedAnswer (memoryAsked guard offset width write cid secure privileged) (now (state .entry))) ⌝ }
-    ensures next { λ _. ⌜ now (state .exit) ≡ appliedState (memoryAsked guard offset width write cid secure privileged) (now (state .entry)) ⌝ }
+    ensures answer { λ r. ⌜ r ≡ encodedOf (appliedAnswer (memoryAsked guard offset width kind) (now (state .entry))) ⌝ }
+    ensures next { λ _. ⌜ now (state .exit) ≡ appliedState (memoryAsked guard offset width kind) (now (state .entry)) ⌝ }
 {
-    let kind = Kind {
-        cid,
-        write,
-        privileged,
-        secure,
-    };
     let access = MemoryAccess {
         guard,
         offset,
         width,
         kind,
     };
-    apply_memory(state, access).encoded()
+    let answer = apply_memory(state, access);
+    // Done is the number itself: no other variant is looked at
+    let Answer::Done(value) = answer else {
+        return answer.encoded();
+    };
+    value as u64
 }
 
 // By a master, which is looked for first: where there is none, neither the guard nor the width can be a better answer.
@@ -56,17 +51,6 @@ pub fn master_encoded(state: &mut [u32], a: MasterAccess) -> u64
     if !master.exists() {
         return Answer::Rejected(Why::NoSuch).encoded();
     }
-    let k = load_attributes(state, master).carried(a.write);
-    let guard = a.guard;
-    let cid = k.cid;
-    memory_encoded(
-        state,
-        guard,
-        a.offset,
-        a.width,
-        k.write,
-        cid,
-        k.secure,
-        k.privileged,
-    )
+    let kind = load_attributes(state, master).carried(a.write);
+    memory_encoded(state, a.guard, a.offset, a.width, kind)
 }

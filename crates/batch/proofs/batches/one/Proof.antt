@@ -7,7 +7,7 @@ use Rattle.batch.proofs.batches.one.Tie as tie
 returns : tie.Need-returns
 returns c =
     let u = c .before .before .memory-encoded in
-    let a = c .before .before .before .before .before .before .before .before .before .args in
+    let a = c .before .before .before .before .before .before .args in
     (u .ensures .1, ap (set (a .answers .now) (a .i)) (u .ensures .0))
 
 pub one-spec : {M : Type 1} → statement M

@@ -25,7 +25,7 @@ returns-2 c =
 returns-3 : tie.Need-returns-3
 returns-3 c =
     let u = c .before .before .memory-encoded in
-    let k = c .before .before .before .before .before .before in
+    let k = c .before .before .before .before in
     let l = k .before in
     let i = l .before .before in
     let x = i .before .exists in
