@@ -1,7 +1,6 @@
 -- The line and the count that are kept, over any event and any events: change request Q-4, in the words of iac/specs/Kept.
 use mathlib.Core.List.{List, [], _∷_}
 use mathlib.Core.Path.{_≡_, refl}
-use Prim.Native.Nat.{ℕ}
 use Rattle.access.specs.declared.request.Request.{Request}
 use Rattle.iac.specs.Contents as iac
 use Rattle.iac.specs.Held.{held}

@@ -1,12 +1,10 @@
 -- A master's access as a memory access: document 02, Q-2. proofs/MasterAccesses has the theorems.
-use mathlib.Core.Bool.{Bool, false}
-use mathlib.Core.Path.{_≡_}
+use mathlib.Core.Bool.{Bool}
 use Prim.Native.Nat.{_≤_, _<_}
 use Rattle.words.specs.Bit.{bit}
 use Rattle.words.specs.Six.{bitAt}
 use Rattle.access.specs.declared.kind.Kind.{Kind}
 use Rattle.rifsc.specs.Masters.{masters, guardingOf, attributesOf, carried}
-use Rattle.rifsc.specs.declared.masters.MasterNumber.{MasterNumber}
 use Rattle.device.specs.State.{State}
 use Rattle.device.specs.declared.event.Event.{Event}
 use Rattle.device.specs.declared.event.Event.the-variants.{Memory}

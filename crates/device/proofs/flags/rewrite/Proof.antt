@@ -1,5 +1,5 @@
 use borrow.Author.Needs.{needs}
-use mathlib.Core.Path.{_≡_, refl, sym, ap, _∙_}
+use mathlib.Core.Path.{sym, ap}
 use Rattle.iac.specs.Contents.{stored, withWord}
 use Rattle.iac.specs.Registers.{rowOf}
 use Rattle.iac.proofs.HeldAt.{at-none}

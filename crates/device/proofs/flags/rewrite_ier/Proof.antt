@@ -1,5 +1,4 @@
 use borrow.Author.Needs.{needs}
-use mathlib.Core.Path.{_∙_, ap}
 use lib.Dec.{lit<}
 use Rattle.device.specs.Layout.{ierPart, isrPart, stateOf}
 use Rattle.device.proofs.HeldSteps.{state-sized, ier-kept}
