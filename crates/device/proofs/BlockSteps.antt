@@ -80,21 +80,24 @@ module _ (s : State) (q : Request) {reg : Register} {row : Row} {v : Seen} {r : 
   unfolding registerStep rifsc.stepped rifsc.written rifsc.accessed
   controller-is = rw (ea, ev, er, eg)
 
-  pub controller-answer : r .answer ≡ registerStep Rifsc q s .answer
+  controller-answer : r .answer ≡ registerStep Rifsc q s .answer
   controller-answer = sym (ap (λ (o : Outcome). o .answer) controller-is)
 
   pub controller-written : {t : State} {x : ℕ} → r .answer ≡ Done x → q .write ≡ true
-      → t ≡ withRifsc s (withStored (s .rifsc) reg (r .next .word)) → t ≡ registerStep Rifsc q s .next
+      → t ≡ withRifsc s (withStored (s .rifsc) reg (r .next .word))
+      → (r .answer ≡ registerStep Rifsc q s .answer) × (t ≡ registerStep Rifsc q s .next)
   unfolding rifsc.accessed
   controller-written d w e =
       let n : r .next .word ≡ rifsc.wordWritten reg row v (q .value) (q .secure) = ap (λ (o : Accessed). o .next .word) ea ∙ rw (sym (ap (λ (o : Accessed). o .answer) ea) ∙ d, w) in
-      rw controller-is (rw (d, w) (e ∙ ap (λ (k : ℕ). withRifsc s (withStored (s .rifsc) reg k)) n))
+      (controller-answer, rw controller-is (rw (d, w) (e ∙ ap (λ (k : ℕ). withRifsc s (withStored (s .rifsc) reg k)) n)))
 
-  pub controller-refused : {t : State} {x : ℕ} → r .answer ≡ Refused x → t ≡ flagged rifscFlag s → t ≡ registerStep Rifsc q s .next
-  controller-refused d e = rw controller-is (rw d e)
+  pub controller-refused : {t : State} {x : ℕ} → r .answer ≡ Refused x → t ≡ flagged rifscFlag s
+      → (r .answer ≡ registerStep Rifsc q s .answer) × (t ≡ registerStep Rifsc q s .next)
+  controller-refused d e = (controller-answer, rw controller-is (rw d e))
 
-  pub controller-rejected : {w : Why} → r .answer ≡ Rejected w → s ≡ registerStep Rifsc q s .next
-  controller-rejected d = rw controller-is (rw d refl)
+  pub controller-rejected : {w : Why} → r .answer ≡ Rejected w
+      → (r .answer ≡ registerStep Rifsc q s .answer) × (s ≡ registerStep Rifsc q s .next)
+  controller-rejected d = (controller-answer, rw controller-is (rw d refl))
 
 -- ---- the IAC, by what the code's calls give
 
@@ -130,18 +133,21 @@ module _ (s : State) (q : Request) {reg : IacRegister} {row : IacRow} {v : ℕ} 
   unfolding registerStep iac.stepped iac.written iac.accessed
   flags-is = rw (ea, ev, er, eg)
 
-  pub flags-answer : r .answer ≡ registerStep Iac q s .answer
+  flags-answer : r .answer ≡ registerStep Iac q s .answer
   flags-answer = sym (ap (λ (o : Outcome). o .answer) flags-is)
 
   pub flags-written : {t : State} {x : ℕ} → r .answer ≡ Done x → q .write ≡ true
-      → t ≡ withIac s (held (s .iac) (iac-contents.withWord (s .iac) reg (r .next .word))) → t ≡ registerStep Iac q s .next
+      → t ≡ withIac s (held (s .iac) (iac-contents.withWord (s .iac) reg (r .next .word)))
+      → (r .answer ≡ registerStep Iac q s .answer) × (t ≡ registerStep Iac q s .next)
   unfolding iac.accessed
   flags-written d w e =
       let n : r .next .word ≡ iac.wordWritten reg v (q .value) = ap (λ (o : IacAccessed). o .next .word) ea ∙ rw (sym (ap (λ (o : IacAccessed). o .answer) ea) ∙ d, w) in
-      rw flags-is (rw (d, w) (e ∙ ap (λ (k : ℕ). withIac s (held (s .iac) (iac-contents.withWord (s .iac) reg k))) n))
+      (flags-answer, rw flags-is (rw (d, w) (e ∙ ap (λ (k : ℕ). withIac s (held (s .iac) (iac-contents.withWord (s .iac) reg k))) n)))
 
-  pub flags-refused : {t : State} {x : ℕ} → r .answer ≡ Refused x → t ≡ flagged iacFlag s → t ≡ registerStep Iac q s .next
-  flags-refused d e = rw flags-is (rw d e)
+  pub flags-refused : {t : State} {x : ℕ} → r .answer ≡ Refused x → t ≡ flagged iacFlag s
+      → (r .answer ≡ registerStep Iac q s .answer) × (t ≡ registerStep Iac q s .next)
+  flags-refused d e = (flags-answer, rw flags-is (rw d e))
 
-  pub flags-rejected : {w : Why} → r .answer ≡ Rejected w → s ≡ registerStep Iac q s .next
-  flags-rejected d = rw flags-is (rw d refl)
+  pub flags-rejected : {w : Why} → r .answer ≡ Rejected w
+      → (r .answer ≡ registerStep Iac q s .answer) × (s ≡ registerStep Iac q s .next)
+  flags-rejected d = (flags-answer, rw flags-is (rw d refl))

@@ -3,7 +3,7 @@ use mathlib.Core.Path.{ap}
 use borrow.Author.Tests.{not-true, not-false}
 use Rattle.iac.specs.declared.registers.Row.{Row}
 use Rattle.device.specs.Layout.{stateOf}
-use Rattle.device.proofs.BlockSteps.{flags-misaligned, flags-answer, flags-written, flags-refused, flags-rejected}
+use Rattle.device.proofs.BlockSteps.{flags-misaligned, flags-written, flags-refused, flags-rejected}
 use borrow.Author.Needs.{needs}
 use Rattle.device.proofs.registers.access_iac.Statement.{statement}
 use Rattle.device.proofs.registers.access_iac.Tie as tie
@@ -28,33 +28,24 @@ rewrite-requires c κs =
 
 returns-3 : tie.Need-returns-3
 returns-3 c =
-    let q = c .before .before .before .before .before .before .before .before .before .before .before .before .before .before .before .before .before .args .q in
-    let t = stateOf (c .before .before .before .before .before .before .before .before .before .before .before .before .before .before .before .before .before .args .state .now) in
-    let g = c .before .before .before .before .before .before .before .before .before .before .before .register-at .ensures in
-    let r = c .before .before .before .before .before .before .before .before .before .before .row .ensures in
-    let v = c .before .before .before .before .before .before .before .before .load-word .ensures in
-    let x = c .before .before .before .before .before .before .before .access .ensures in
-    (flags-answer t q g r v x, flags-written t q g r v x (c .before .before .before .before .enum-told .given .1) (not-false (q .write) (c .before .before .before .before .before .before .before .before .before .before .before .before .if2 .left)) (c .before .before .rewrite .ensures))
+    let x = c .before .before .before .before .before .before .before in
+    let a = x .before .before .before .before .before .before .before .before .before .before .args in
+    flags-written (stateOf (a .state .now)) (a .q) (x .before .before .before .before .register-at .ensures) (x .before .before .before .row .ensures) (x .before .load-word .ensures) (x .access .ensures)
+    (c .before .before .before .before .enum-told .given .1) (not-false (a .q .write) (x .before .before .before .before .before .if2 .left)) (c .before .before .rewrite .ensures)
 
 returns-4 : tie.Need-returns-4
 returns-4 c =
-    let q = c .before .before .before .before .before .before .before .before .before .before .before .before .before .before .before .before .before .args .q in
-    let t = stateOf (c .before .before .before .before .before .before .before .before .before .before .before .before .before .before .before .before .before .args .state .now) in
-    let g = c .before .before .before .before .before .before .before .before .before .before .before .register-at .ensures in
-    let r = c .before .before .before .before .before .before .before .before .before .before .row .ensures in
-    let v = c .before .before .before .before .before .before .before .before .load-word .ensures in
-    let x = c .before .before .before .before .before .before .before .access .ensures in
-    (flags-answer t q g r v x, flags-refused t q g r v x (c .before .before .before .before .enum-told2 .given .1) (c .before .before .raise .ensures))
+    let x = c .before .before .before .before .before .before .before in
+    let a = x .before .before .before .before .before .before .before .before .before .before .args in
+    flags-refused (stateOf (a .state .now)) (a .q) (x .before .before .before .before .register-at .ensures) (x .before .before .before .row .ensures) (x .before .load-word .ensures) (x .access .ensures)
+    (c .before .before .before .before .enum-told2 .given .1) (c .before .before .raise .ensures)
 
 returns-5 : tie.Need-returns-5
 returns-5 c =
-    let q = c .before .before .before .before .before .before .before .before .before .before .before .before .before .args .q in
-    let t = stateOf (c .before .before .before .before .before .before .before .before .before .before .before .before .before .args .state .now) in
-    let g = c .before .before .before .before .before .before .before .register-at .ensures in
-    let r = c .before .before .before .before .before .before .row .ensures in
-    let v = c .before .before .before .before .load-word .ensures in
-    let x = c .before .before .before .access .ensures in
-    (flags-answer t q g r v x, flags-rejected t q g r v x (c .enum-told3 .given .1))
+    let x = c .before .before .before in
+    let a = x .before .before .before .before .before .before .before .before .before .before .args in
+    flags-rejected (stateOf (a .state .now)) (a .q) (x .before .before .before .before .register-at .ensures) (x .before .before .before .row .ensures) (x .before .load-word .ensures) (x .access .ensures)
+    (c .enum-told3 .given .1)
 
 pub access-iac-spec : {M : Type 1} → statement M
 access-iac-spec =

@@ -1,7 +1,7 @@
 -- `device::registers::access_rifsc` meets its contract, by how the access ends.
 use borrow.Author.Tests.{not-true, not-false}
 use Rattle.device.specs.Layout.{stateOf}
-use Rattle.device.proofs.BlockSteps.{controller-misaligned, controller-answer, controller-written, controller-refused, controller-rejected}
+use Rattle.device.proofs.BlockSteps.{controller-misaligned, controller-written, controller-refused, controller-rejected}
 use borrow.Author.Needs.{needs}
 use Rattle.device.proofs.registers.access_rifsc.Statement.{statement}
 use Rattle.device.proofs.registers.access_rifsc.Tie as tie
@@ -22,33 +22,24 @@ returns-2 c =
 
 returns-3 : tie.Need-returns-3
 returns-3 c =
-    let q = c .before .before .before .before .before .before .before .before .before .before .before .before .before .before .before .before .before .args .q in
-    let t = stateOf (c .before .before .before .before .before .before .before .before .before .before .before .before .before .before .before .before .before .args .state .now) in
-    let g = c .before .before .before .before .before .before .before .before .before .before .before .register-at .ensures in
-    let r = c .before .before .before .before .before .before .before .before .before .before .row .ensures in
-    let v = c .before .before .before .before .before .before .before .before .load-seen .ensures in
-    let x = c .before .before .before .before .before .before .before .access .ensures in
-    (controller-answer t q g r v x, controller-written t q g r v x (c .before .before .before .before .enum-told .given .1) (not-false (q .write) (c .before .before .before .before .before .before .before .before .before .before .before .before .if2 .left)) (c .before .before .store-register .ensures))
+    let x = c .before .before .before .before .before .before .before in
+    let a = x .before .before .before .before .before .before .before .before .before .before .args in
+    controller-written (stateOf (a .state .now)) (a .q) (x .before .before .before .before .register-at .ensures) (x .before .before .before .row .ensures) (x .before .load-seen .ensures) (x .access .ensures)
+    (c .before .before .before .before .enum-told .given .1) (not-false (a .q .write) (x .before .before .before .before .before .if2 .left)) (c .before .before .store-register .ensures)
 
 returns-4 : tie.Need-returns-4
 returns-4 c =
-    let q = c .before .before .before .before .before .before .before .before .before .before .before .before .before .before .before .before .before .args .q in
-    let t = stateOf (c .before .before .before .before .before .before .before .before .before .before .before .before .before .before .before .before .before .args .state .now) in
-    let g = c .before .before .before .before .before .before .before .before .before .before .before .register-at .ensures in
-    let r = c .before .before .before .before .before .before .before .before .before .before .row .ensures in
-    let v = c .before .before .before .before .before .before .before .before .load-seen .ensures in
-    let x = c .before .before .before .before .before .before .before .access .ensures in
-    (controller-answer t q g r v x, controller-refused t q g r v x (c .before .before .before .before .enum-told2 .given .1) (c .before .before .raise .ensures))
+    let x = c .before .before .before .before .before .before .before in
+    let a = x .before .before .before .before .before .before .before .before .before .before .args in
+    controller-refused (stateOf (a .state .now)) (a .q) (x .before .before .before .before .register-at .ensures) (x .before .before .before .row .ensures) (x .before .load-seen .ensures) (x .access .ensures)
+    (c .before .before .before .before .enum-told2 .given .1) (c .before .before .raise .ensures)
 
 returns-5 : tie.Need-returns-5
 returns-5 c =
-    let q = c .before .before .before .before .before .before .before .before .before .before .before .before .before .args .q in
-    let t = stateOf (c .before .before .before .before .before .before .before .before .before .before .before .before .before .args .state .now) in
-    let g = c .before .before .before .before .before .before .before .register-at .ensures in
-    let r = c .before .before .before .before .before .before .row .ensures in
-    let v = c .before .before .before .before .load-seen .ensures in
-    let x = c .before .before .before .access .ensures in
-    (controller-answer t q g r v x, controller-rejected t q g r v x (c .enum-told3 .given .1))
+    let x = c .before .before .before in
+    let a = x .before .before .before .before .before .before .before .before .before .before .args in
+    controller-rejected (stateOf (a .state .now)) (a .q) (x .before .before .before .before .register-at .ensures) (x .before .before .before .row .ensures) (x .before .load-seen .ensures) (x .access .ensures)
+    (c .enum-told3 .given .1)
 
 pub access-rifsc-spec : {M : Type 1} → statement M
 access-rifsc-spec =
