@@ -8,10 +8,10 @@ use native.Mathlib.Omega.{arith}
 use native.Mathlib.Numerals.{add-three}
 use borrow.Author.Tests.{le-leb, lt-leb}
 use lib.Dec.{leb}
-use lib.ListN.{length, getD, take, drop, take-append-drop}
+use lib.ListN.{length, getD, take, drop, take-append-drop, length-drop}
 use Rattle.spans.specs.Rows.{Rows, none, more, flat, encloses}
 use Rattle.spans.specs.Map.{IsMap, mapOf}
-use Rattle.spans.specs.Lookup.{lookupIn, rowPlace, Finds}
+use Rattle.spans.specs.Lookup.{lookupIn, rowPlace, Passed, Finds}
 use Rattle.spans.proofs.Order.{below-or}
 use Rattle.spans.proofs.Unique.{MapRows, map-rows}
 use Rattle.spans.proofs.Memory.{flat-more, three}
@@ -124,13 +124,18 @@ place-short (s ∷ []) x h = refl
 place-short (s ∷ e ∷ []) x h = refl
 place-short (s ∷ e ∷ q ∷ rest) x h = absurd (omega arith)
 
--- behind the first i numbers the place in the rows that are left is that in the whole
-abbrev pub Passed : List ℕ → ℕ → ℕ → Type 0
-Passed m x i = (i ≤ length m) × (i + rowPlace (drop i m) x ≡ rowPlace m x)
-
 -- the row from i on encloses x
 abbrev pub encloses-at : List ℕ → ℕ → ℕ → Bool
 encloses-at m x i = encloses (getD m i 0) (getD m (i + 1) 0) x
+
+-- of the row from i on the end stands at j
+module _ (m : List ℕ) (x i j : ℕ) (e : j ≡ i + 1) where
+  -- a row that ends before x does not enclose it
+  pub ended-before : getD m j 0 < x → encloses-at m x i ≡ false
+  ended-before h = outside (getD m i 0) (getD m (i + 1) 0) x (inr (rw (← e) h))
+
+  pub ends-later : i + 3 ≤ length m → x ≤ getD m j 0 → (i + 3 ≤ length m) × (x ≤ getD m (i + 1) 0)
+  ends-later l h = (l, rw (← e) h)
 
 module _ (m : List ℕ) (x i : ℕ) (h : i + 3 ≤ length m) (p : Passed m x i) where
   one-row : rowPlace (drop i m) x ≡ cond (encloses-at m x i) 0 (rowPlace (drop (i + 3) m) x + 3)
@@ -146,6 +151,20 @@ module _ (m : List ℕ) (x i : ℕ) (h : i + 3 ≤ length m) (p : Passed m x i) 
   place-later j s e =
       let r : rowPlace (drop i m) x ≡ rowPlace (drop (i + 3) m) x + 3 = one-row ∙ simp e in
       rw s (h, omega (arith, r, p .1))
+
+-- where no whole row is left, the numbers are at an end
+pub ended-all : (m : List ℕ) (x i : ℕ) → length m < i + 3 → Passed m x i → Passed m x (length m)
+ended-all m x i h p =
+    let rest = length-drop i m in
+    let none = length-drop (length m) m in
+    let short = place-short (drop i m) x (omega (arith, rest, h)) in
+    let gone = place-short (drop (length m) m) x (omega (arith, none)) in
+    (omega arith, omega (arith, p .0, p .1, rest, none, short, gone))
+
+pub place-all : (m : List ℕ) (x i : ℕ) → length m ≤ i → Passed m x i → length m ≡ rowPlace m x
+place-all m x i h p =
+    let rest = length-drop i m in
+    omega (arith, p .0, p .1, rest, place-short (drop i m) x (omega (arith, rest, h)))
 
 -- ---- four rows, each passed behind the one before
 

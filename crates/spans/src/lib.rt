@@ -1,52 +1,54 @@
 // Maps of rights in lent memory. A row, or span, is three numbers: start, end, rights.
 ghost use mathlib.Core.Path.{_≡_};
-ghost use Prim.Native.Nat.{_+_, _<_};
-ghost use lib.ListN.{getD, length};
-ghost use Rattle.spans.specs.Lookup.{lookupIn, rowPlace};
-ghost use Rattle.spans.specs.Rows.{encloses};
+ghost use Rattle.spans.specs.Lookup.{Ended, Passed, lookupIn, rowPlace};
 ghost use Rattle.spans.specs.Put.{putCount, putIn};
 ghost use Rattle.spans.specs.Sweep.{nearer};
 
 // The numbers of four rows.
 const FOUR_ROWS: usize = 12;
 
-// The row from i on encloses the offset. Rows of a map rise, so that most that do not enclose it have ended before: the end comes first.
-fn encloses(map: &[u64], i: usize, offset: u64) -> bool
-    requires { ⌜ i + 1 < length (now map) ⌝ }
-    ensures { λ r. ⌜ r ≡ encloses (getD (now (map .entry)) i 0) (getD (now (map .entry)) (i + 1) 0) offset ⌝ }
+// The place of the first row from `from` on that does not end before the offset, or the map's length where there is none. A row's end is
+// its second number; of a map, whose rows rise, such a row encloses the offset. Four rows a turn, while there are four: a loop that is
+// left as soon as one is found, so that the compiler lays its tests out in a row.
+fn end_place(map: &[u64], from: usize, offset: u64) -> usize
+    requires { ⌜ Passed (now map) offset from ⌝ }
+    ensures { λ r. ⌜ Ended (now (map .entry)) offset from r ⌝ }
 {
-    if map[i + 1] < offset {
-        return false;
-    }
-    map[i] <= offset
-}
-
-// Where in the map the first row whose start and end enclose the offset begins, or the map's length where there is none.
-// Four rows a turn, while there are four.
-pub fn row_place(map: &[u64], offset: u64) -> usize
-    ensures { λ r. ⌜ r ≡ rowPlace (now (map .entry)) offset ⌝ }
-{
-    let mut i = 0;
+    let mut i = from;
     while FOUR_ROWS <= map.len() - i {
-        if encloses(map, i, offset) {
+        if offset <= map[i + 1] {
             return i;
         }
-        if encloses(map, i + 3, offset) {
+        if offset <= map[i + 4] {
             return i + 3;
         }
-        if encloses(map, i + 6, offset) {
+        if offset <= map[i + 7] {
             return i + 6;
         }
-        if encloses(map, i + 9, offset) {
+        if offset <= map[i + 10] {
             return i + 9;
         }
         i += FOUR_ROWS;
     }
     while 3 <= map.len() - i {
-        if encloses(map, i, offset) {
+        if offset <= map[i + 1] {
             return i;
         }
         i += 3;
+    }
+    map.len()
+}
+
+// Where in the map the first row whose start and end enclose the offset begins, or the map's length where there is none.
+pub fn row_place(map: &[u64], offset: u64) -> usize
+    ensures { λ r. ⌜ r ≡ rowPlace (now (map .entry)) offset ⌝ }
+{
+    let mut i = end_place(map, 0, offset);
+    while i < map.len() {
+        if map[i] <= offset {
+            return i;
+        }
+        i = end_place(map, i + 3, offset);
     }
     map.len()
 }
