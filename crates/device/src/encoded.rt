@@ -32,7 +32,7 @@ pub fn memory_encoded(
         kind,
     };
     let answer = apply_memory(state, access);
-    // Done is the number itself: no other variant is looked at
+    // Done is the value itself, and most accesses are done: no other variant is looked at.
     let Answer::Done(value) = answer else {
         return answer.encoded();
     };

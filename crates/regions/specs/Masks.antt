@@ -58,7 +58,7 @@ withSub p base sub opens m =
       opens = bitOr (m .opens) opens;
     }
 
--- with subregion s of a base region that covers; adds says what a subregion's CFGR adds to `opens`
+-- with subregion s of a base region that covers; p says whether all is for a privileged asking, adds what a subregion's CFGR adds to `opens`
 unfoldable pub subGathered : Bool → (ℕ → ℕ) → List ℕ → ℕ → ℕ → ℕ → Masks → Masks
 subGathered p adds w x s o m =
     cond (covers w (sub x s) o) (withSub p (getD w (base x) 0) (getD w (sub x s) 0) (adds (getD w (sub x s) 0)) m) m

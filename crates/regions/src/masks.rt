@@ -126,23 +126,8 @@ pub(crate) fn with_base(cfgr: u32, cidcfgr: u32, m: Masks) -> Masks
     }
 }
 
-// With CFGR of a subregion that counts, and of its base region; opens is what it adds there.
-pub(crate) fn with_sub(base: u32, sub: u32, opens: u32, m: Masks) -> Masks
-    ensures { λ r. ⌜ r ≡ withSub false base sub opens m ⌝ }
-{
-    let srcid = srcid(sub);
-    let opens = m.opens | opens;
-    Masks {
-        some: m.some,
-        every: m.every,
-        enables: m.enables,
-        secure: m.secure & (sub & base),
-        privileged: m.privileged & (sub & ((base >> srcid.0) >> (PRIVC - PRIV))),
-        opens,
-    }
-}
-
-// The same for a privileged asking, for which PRIV need not be looked at: a shift less.
+// With CFGR of a subregion that counts, and of its base region; opens is what it adds there. For a privileged asking PRIV need not be
+// looked at: a shift less.
 fn with_sub_privileged(base: u32, sub: u32, opens: u32, m: Masks) -> Masks
     ensures { λ r. ⌜ r ≡ withSub true base sub opens m ⌝ }
 {
@@ -155,6 +140,16 @@ fn with_sub_privileged(base: u32, sub: u32, opens: u32, m: Masks) -> Masks
         privileged: m.privileged,
         opens,
     }
+}
+
+// The same, with PRIV too.
+pub(crate) fn with_sub(base: u32, sub: u32, opens: u32, m: Masks) -> Masks
+    ensures { λ r. ⌜ r ≡ withSub false base sub opens m ⌝ }
+{
+    let srcid = srcid(sub);
+    let mut next = with_sub_privileged(base, sub, opens, m);
+    next.privileged = m.privileged & (sub & ((base >> srcid.0) >> (PRIVC - PRIV)));
+    next
 }
 
 // With what subregion s of base region x, which covers, says.

@@ -11,7 +11,8 @@ use lib.Dec.{leb}
 use lib.ListN.{length, getD, take, drop, take-append-drop, length-drop}
 use Rattle.spans.specs.Rows.{Rows, none, more, flat, encloses}
 use Rattle.spans.specs.Map.{IsMap, mapOf}
-use Rattle.spans.specs.Lookup.{lookupIn, rowPlace, Passed, Finds}
+use Rattle.spans.specs.Lookup.{lookupIn, rowPlace, Finds}
+use Rattle.spans.specs.Passed.{Passed}
 use Rattle.spans.proofs.Order.{below-or}
 use Rattle.spans.proofs.Unique.{MapRows, map-rows}
 use Rattle.spans.proofs.Memory.{flat-more, three}

@@ -1,9 +1,8 @@
 -- What a lookup of an offset finds in numbers that are rows, whatever the numbers are.
-use Prim.Native.Nat.{ℕ, _+_, _≤_, _<_}
+use Prim.Native.Nat.{ℕ, _+_, _≤_}
 use mathlib.Core.Path.{_≡_}
 use mathlib.Core.Bool.{cond}
 use mathlib.Core.List.{List, [], _∷_}
-use lib.ListN.{length, getD, drop}
 use Rattle.spans.specs.Rows.{encloses}
 
 -- the first row whose start and end enclose x, as its three numbers, or nothing; one or two numbers left over at the end are no row
@@ -19,20 +18,6 @@ rowPlace [] x = 0
 rowPlace (s ∷ []) x = 1
 rowPlace (s ∷ e ∷ []) x = 2
 rowPlace (s ∷ e ∷ q ∷ rest) x = cond (encloses s e x) 0 (rowPlace rest x + 3)
-
--- ---- what the code goes by, row after row
-
--- behind the first i numbers the place in the rows that are left is that in the whole
-abbrev pub Passed : List ℕ → ℕ → ℕ → Type 0
-Passed m x i = (i ≤ length m) × (i + rowPlace (drop i m) x ≡ rowPlace m x)
-
--- up to r, which lies at `from` or behind it, no row encloses x; at r one begins that does not end before x, or the numbers are at an end
-pub record Ended (m : List ℕ) (x from r : ℕ) : Type 0 where
-  pub low : from ≤ r
-  pub passed : Passed m x r
-  pub found : r < length m → (r + 3 ≤ length m) × (x ≤ getD m (r + 1) 0)
-
--- ---- in a map
 
 -- the numbers l are one row, which encloses x and has f's rights at x: what a lookup finds in a map of f
 pub record Finds (f : ℕ → ℕ) (x : ℕ) (l : List ℕ) : Type 0 where

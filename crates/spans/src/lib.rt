@@ -1,6 +1,7 @@
 // Maps of rights in lent memory. A row, or span, is three numbers: start, end, rights.
 ghost use mathlib.Core.Path.{_≡_};
-ghost use Rattle.spans.specs.Lookup.{Ended, Passed, lookupIn, rowPlace};
+ghost use Rattle.spans.specs.Lookup.{lookupIn, rowPlace};
+ghost use Rattle.spans.specs.Passed.{Ended, Passed};
 ghost use Rattle.spans.specs.Put.{putCount, putIn};
 ghost use Rattle.spans.specs.Sweep.{nearer};
 

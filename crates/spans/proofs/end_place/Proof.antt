@@ -5,7 +5,7 @@ use native.Mathlib.Omega.{arith}
 use lib.ListN.{length}
 use denote.Ref.{now}
 use borrow.Author.Needs.{needs}
-use Rattle.spans.specs.Lookup.{Passed}
+use Rattle.spans.specs.Passed.{Passed}
 use Rattle.spans.proofs.Found.{ended-before, ends-later, ended-all, place-later, passed-two, passed-three, passed-four}
 use Rattle.spans.proofs.end_place.Statement.{statement}
 use Rattle.spans.proofs.end_place.Tie as tie

@@ -6,7 +6,7 @@ use native.Mathlib.Omega.{arith}
 use lib.ListN.{length, getD}
 use denote.Ref.{now}
 use borrow.Author.Needs.{needs}
-use Rattle.spans.specs.Lookup.{Passed}
+use Rattle.spans.specs.Passed.{Passed}
 use Rattle.spans.proofs.Found.{inside, outside, place-all, place-here, place-later}
 use Rattle.spans.proofs.row_place.Statement.{statement}
 use Rattle.spans.proofs.row_place.Tie as tie
