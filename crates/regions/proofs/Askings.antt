@@ -2,12 +2,12 @@
 use mathlib.Core.Bool.{Bool, true, false, _&&_, _||_, cond, Bool·beq, and-true, or-false}
 use mathlib.Core.List.{List}
 use mathlib.Core.Path.{_≡_, refl, sym, ap, ap₂, _∙_}
-use Prim.Native.Nat.{ℕ, _+_, _*_, _/_, _%_, _^_, _≤_, _<_}
+use Prim.Native.Nat.{ℕ, _+_, _-_, _*_, _/_, _%_, _^_, _≤_, _<_}
 use native.Mathlib.Omega.{arith}
-use lib.Bits.{bitAnd}
+use lib.Bits.{bitAnd, and-high, and-zero-r}
 use lib.Dec.{eqb}
 use lib.ListN.{getD}
-use Rattle.words.specs.Bit.{bit}
+use Rattle.words.specs.Bit.{bit, field}
 use Rattle.words.proofs.Laws.{bit-zero, field-lt}
 use Rattle.words.proofs.Ops.{bit-or}
 use Rattle.access.specs.Fold.{all}
@@ -21,6 +21,7 @@ use Rattle.regions.specs.Rules.{Tests, reasonOf, ruleOf, covers, counts,
 use Rattle.regions.specs.Masks.{Next, masks, subGathered, serving, servedBy}
 use Rattle.regions.specs.Admits.{allIf, byAsked, byBases, bySubs, governed, packed, testsOf, verdictOf}
 use Rattle.regions.specs.declared.masks.Masks.{Masks}
+use Rattle.regions.specs.declared.masks.Served.{Served}
 use Rattle.regions.specs.declared.rules.Verdict.{Verdict}
 use Rattle.regions.proofs.AdmitsTests.{all-if, bases-tests, none-counted, some-covered, subs-tests}
 use Rattle.regions.proofs.MaskBits.{ap-cond, or-cond, some-sub}
@@ -32,19 +33,36 @@ use Rattle.regions.proofs.Openings.{all-at, beq-is}
 abbrev pub denOf : Bool → ℕ
 denOf write = cond write wrenBit rdenBit
 
--- SRCID i serves compartment c
+-- a CFGR with an SRCID that serves compartment c
 abbrev isServed : ℕ → ℕ → Bool
-isServed c i = eqb (bitAnd i (servedBy c .mask)) (servedBy c .srcid)
+isServed c cfgr = eqb (bitAnd cfgr (servedBy c .mask)) (servedBy c .srcid)
 
--- by a test that computes
+-- the bits of the mask: SRCID where it lies, or none
+in-place : (cfgr c : ℕ) → bitAnd cfgr (servedBy c .mask) ≡ cond (eqb c 7) 0 (field cfgr srcidBit 3 * 2 ^ srcidBit)
+in-place cfgr c = by (eqb c 7)
+  where
+    by : (t : Bool)
+        → bitAnd cfgr (cond {A = Served} t (record { mask = 0; srcid = 0 }) (record { mask = (2 ^ 3 - 1) * 2 ^ srcidBit; srcid = c * 2 ^ srcidBit % 2 ^ 32 }) .mask)
+        ≡ cond t 0 (field cfgr srcidBit 3 * 2 ^ srcidBit)
+    by true = and-zero-r cfgr
+    by false = and-high cfgr 3 srcidBit
+
+-- that SRCID i, in its place, serves compartment c, by a test that computes
 abbrev serves : ℕ → ℕ → Bool
-serves c i = Bool·beq (isServed c i) (eqb i c || eqb c 7)
+serves c i = eqb (cond (eqb c 7) 0 (i * 2 ^ srcidBit)) (servedBy c .srcid)
 
-all-serve : all 8 (λ c. all 8 (serves c)) ≡ true
-all-serve = refl
+abbrev agrees : ℕ → ℕ → Bool
+agrees c i = Bool·beq (serves c i) (eqb i c || eqb c 7)
 
-served : (c i : ℕ) → c < 8 → i < 8 → isServed c i ≡ (eqb i c || eqb c 7)
-served c i h l = beq-is (isServed c i) (eqb i c || eqb c 7) (all-at 8 (serves c) (all-at 8 (λ c. all 8 (serves c)) all-serve c h) i l)
+all-agree : all 8 (λ c. all 8 (agrees c)) ≡ true
+all-agree = refl
+
+served : (c cfgr : ℕ) → c < 8 → isServed c cfgr ≡ (eqb (field cfgr srcidBit 3) c || eqb c 7)
+served c cfgr h =
+    let i = field cfgr srcidBit 3 in
+    ap (λ (a : ℕ). eqb a (servedBy c .srcid)) (in-place cfgr c)
+    ∙ beq-is (serves c i) (eqb i c || eqb c 7)
+    (all-at 8 (agrees c) (all-at 8 (λ c. all 8 (agrees c)) all-agree c h) i (field-lt cfgr srcidBit 3))
 
 one-bit : (d : Bool) → bit 1 (denOf d) ≡ false
 one-bit true = refl
@@ -75,8 +93,8 @@ module _ (p : Bool) (w : List ℕ) (o c : ℕ) where
       (λ x s m.
       ap-cond (λ (l : Masks). bit (l .opens) 0) (covers w (sub x s) o) _ m
       ∙ ap (λ (b : Bool). cond (covers w (sub x s) o) b (bit (m .opens) 0))
-      (bit-or (m .opens) _ 0 ∙ ap (λ (b : Bool). bit (m .opens) 0 || b) (either (isServed c (srcid w x s .0)) (getD w (sub x s) 0) 0))
-      ∙ own (bit (m .opens) 0) (bit (getD w (sub x s) 0) 0) _ (isServed c (srcid w x s .0))) n
+      (bit-or (m .opens) _ 0 ∙ ap (λ (b : Bool). bit (m .opens) 0 || b) (either (isServed c (getD w (sub x s) 0)) (getD w (sub x s) 0) 0))
+      ∙ own (bit (m .opens) 0) (bit (getD w (sub x s) 0) 0) _ (isServed c (getD w (sub x s) 0))) n
       ∙ any-same n _ _ (λ x h. any-same 2 _ _ (λ s l. and-true (counts w o x s)))
 
   asked-open : (d : Bool) (n : ℕ) → c < 8
@@ -89,13 +107,13 @@ module _ (p : Bool) (w : List ℕ) (o c : ℕ) where
       (λ x s m.
       ap-cond (λ (l : Masks). bit (l .opens) (denOf d)) (covers w (sub x s) o) _ m
       ∙ ap (λ (b : Bool). cond (covers w (sub x s) o) b (bit (m .opens) (denOf d)))
-      (bit-or (m .opens) _ (denOf d) ∙ ap (λ (b : Bool). bit (m .opens) (denOf d) || b) (one (getD w (sub x s) 0) (srcid w x s .0) (field-lt _ srcidBit 3)))
+      (bit-or (m .opens) _ (denOf d) ∙ ap (λ (b : Bool). bit (m .opens) (denOf d) || b) (one (getD w (sub x s) 0)))
       ∙ or-cond (covers w (sub x s) o) (bit (m .opens) (denOf d)) _) n
     where
-      one : (cfgr i : ℕ) → i < 8 → bit (cond (isServed c i) cfgr 1) (denOf d) ≡ ((eqb i c || eqb c 7) && bit cfgr (denOf d))
-      one cfgr i l =
-          either (isServed c i) cfgr (denOf d) ∙ ap₂ (λ (s b : Bool). cond s (bit cfgr (denOf d)) b) (served c i h l) (one-bit d)
-          ∙ go (eqb i c || eqb c 7)
+      one : (cfgr : ℕ) → bit (cond (isServed c cfgr) cfgr 1) (denOf d) ≡ ((eqb (field cfgr srcidBit 3) c || eqb c 7) && bit cfgr (denOf d))
+      one cfgr =
+          either (isServed c cfgr) cfgr (denOf d) ∙ ap₂ (λ (s b : Bool). cond s (bit cfgr (denOf d)) b) (served c cfgr h) (one-bit d)
+          ∙ go (eqb (field cfgr srcidBit 3) c || eqb c 7)
         where
           go : (s : Bool) → cond s (bit cfgr (denOf d)) false ≡ (s && bit cfgr (denOf d))
           go true = refl

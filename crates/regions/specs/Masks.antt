@@ -24,13 +24,13 @@ opening cfgr i = (cfgr / 2 ^ rdenBit % 2 + 0x100 + cfgr / 2 ^ wrenBit % 2 * 0x1_
 abbrev pub openings : ℕ → ℕ
 openings cfgr = opening cfgr (field cfgr srcidBit 3)
 
--- the SRCIDs that serve compartment c, its own; CID 7 every one serves
+-- the SRCIDs that serve compartment c, where they lie in CFGR: its own; CID 7 every one serves
 abbrev pub servedBy : ℕ → Served
-servedBy c = cond (eqb c (debugger .0)) (record { mask = 0; srcid = 0 }) (record { mask = 2 ^ 3 - 1; srcid = c })
+servedBy c = cond (eqb c (debugger .0)) (record { mask = 0; srcid = 0 }) (record { mask = (2 ^ 3 - 1) * 2 ^ srcidBit; srcid = c * 2 ^ srcidBit % 2 ^ 32 })
 
 -- of one asking, the same: CFGR, where it has an SRCID that serves, else its enable alone, which is 1 where the subregion counts
 abbrev pub serving : Served → ℕ → ℕ
-serving by cfgr = cond (eqb (bitAnd (field cfgr srcidBit 3) (by .mask)) (by .srcid)) cfgr 1
+serving by cfgr = cond (eqb (bitAnd cfgr (by .mask)) (by .srcid)) cfgr 1
 
 -- with the words of a base region that covers
 abbrev pub withBase : ℕ → ℕ → Masks → Masks

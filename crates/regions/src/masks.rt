@@ -37,7 +37,7 @@ pub(crate) struct Masks {
     pub(crate) opens: u32,
 }
 
-// The SRCIDs that serve a compartment: those that have `srcid` in the bits of `mask`.
+// The SRCIDs that serve a compartment, where they lie in CFGR: those that have `srcid` in the bits of `mask`.
 pub(crate) struct Served {
     mask: u32,
     srcid: u32,
@@ -51,8 +51,8 @@ pub(crate) fn served_by(cid: Cid) -> Served
         return Served { mask: 0, srcid: 0 };
     }
     Served {
-        mask: COMPARTMENTS - 1,
-        srcid: cid.0,
+        mask: (COMPARTMENTS - 1) << SRCID,
+        srcid: cid.0 << SRCID,
     }
 }
 
@@ -106,7 +106,7 @@ pub(crate) fn openings(cfgr: u32) -> u32
 fn serving(by: Served, cfgr: u32) -> u32
     ensures { λ r. ⌜ r ≡ serving by cfgr ⌝ }
 {
-    if (srcid(cfgr).0 & by.mask) == by.srcid {
+    if (cfgr & by.mask) == by.srcid {
         return cfgr;
     }
     1 << ENABLE

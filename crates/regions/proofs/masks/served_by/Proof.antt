@@ -7,7 +7,7 @@ returns : tie.Need-returns
 returns c = simp (← c .before .equals .ensures, c .if1 .taken) refl
 
 returns-2 : tie.Need-returns-2
-returns-2 c = simp (← c .before .equals .ensures, c .if1 .left) refl
+returns-2 c = simp (← c .before .before .equals .ensures, c .before .if1 .left) refl
 
 pub served-by-spec : {M : Type 1} → statement M
 served-by-spec =
