@@ -3,6 +3,8 @@ use access::Bus;
 use access::Why;
 use device::STATE_WORDS;
 use device::region_words;
+use regions::active_at;
+use regions::places::REGION_WORDS;
 use regions::stretch_at;
 use risaf::GuardNumber;
 ghost use mathlib.Core.Path.{_≡_};
@@ -28,7 +30,7 @@ pub struct Filled {
 }
 
 // The map of what n base regions give, over the front of lent memory, and its count of rows: from boundary to boundary, a span
-// with the rights at its start.
+// with the rights at its start. They are those of the active base regions, up to the next START.
 fn sweep(bus: Bus, w: &[u32], n: usize, window: u64, lent: &mut [u64]) -> usize
     requires { ⌜ (n ≤ mostRegions) × (base n ≤ length (now w)) × (window ≤ 2 ^ 32) × (leastRoom ≤ length (now lent)) ⌝ }
     ensures { λ r. ⌜ r ≡ size (mapOf (rightsWord bus (now (w .entry)) n) window) ⌝ }
@@ -37,9 +39,16 @@ fn sweep(bus: Bus, w: &[u32], n: usize, window: u64, lent: &mut [u64]) -> usize
     let mut at: u64 = 0;
     let mut count: usize = 0;
     while at < window {
-        let stretch = stretch_at(bus, w, n, at as u32, window);
-        count = spans::put(lent, count, at, stretch.to - 1, stretch.rights);
-        at = stretch.to;
+        let active = active_at(w, n, at as u32, window);
+        let low = active.low;
+        let high = active.high;
+        let to = active.to;
+        let part = &w[REGION_WORDS * low..REGION_WORDS * high];
+        while at < to {
+            let stretch = stretch_at(bus, part, high - low, at as u32, to);
+            count = spans::put(lent, count, at, stretch.to - 1, stretch.rights);
+            at = stretch.to;
+        }
     }
     count
 }

@@ -1,5 +1,5 @@
 -- The base regions that are enabled: where none is, none covers.
-use mathlib.Core.Bool.{Bool, false, _||_}
+use mathlib.Core.Bool.{Bool, true, false, not, _||_, Bool·not-not}
 use mathlib.Core.List.{List}
 use mathlib.Core.Path.{_≡_, refl, sym, ap, _∙_}
 use Prim.Native.Nat.{ℕ, zero, suc, _+_, _≤_, _<_}
@@ -22,7 +22,7 @@ pub enabled-more : (w : List ℕ) (x some : ℕ) → bit some 0 ≡ someEnabled 
 enabled-more w x some e =
     bit-or some (getD w (base x) 0) 0 ∙ ap (λ (b : Bool). b || bit (getD w (base x) 0) 0) e ∙ sym (ap (someEnabled w) (add-one x))
 
-none-of : (n : ℕ) (p : ℕ → Bool) → any n p ≡ false → (x : ℕ) → x < n → p x ≡ false
+pub none-of : (n : ℕ) (p : ℕ → Bool) → any n p ≡ false → (x : ℕ) → x < n → p x ≡ false
 none-of zero p e x h = absurd (omega arith)
 none-of (suc n) p e x h = go (decLt x n) (none-of n p (neither (any n p) (p n) e .0) x)
   where
@@ -31,6 +31,10 @@ none-of (suc n) p e x h = go (decLt x n) (none-of n p (neither (any n p) (p n) e
     go (no r) below =
         let q : x ≡ n = omega arith in
         ap p q ∙ neither (any n p) (p n) e .1
+
+-- by the code's call
+pub told-none : (w : List ℕ) {r : Bool} → r ≡ not (someEnabled w mostRegions) → r ≡ true → someEnabled w mostRegions ≡ false
+told-none w e t = sym (Bool·not-not _) ∙ ap not (sym e ∙ t)
 
 pub unenabled-uncovered : (w : List ℕ) (n o : ℕ) → n ≤ mostRegions → someEnabled w mostRegions ≡ false → covered w n o ≡ false
 unenabled-uncovered w n o h e =

@@ -4,8 +4,11 @@ use mathlib.Core.Logic.{_⊎_, inl, inr, ⊎-elim}
 use mathlib.Core.Path.{_≡_, refl, _∙_}
 use Prim.Native.Nat.{ℕ, zero, suc, _+_, _≤_, _<_}
 use native.Mathlib.Omega.{arith}
+use Rattle.regions.specs.Active.{active, withRegion}
 use Rattle.regions.specs.Ahead.{lesser, regionAhead, subAhead, baseAhead, ahead}
 use Rattle.regions.specs.Words.{base, sub}
+use Rattle.regions.specs.declared.active.Active.{Active}
+use Rattle.regions.proofs.Inactive.{with-off, with-before, with-past, with-inside}
 use Rattle.regions.proofs.Lies.{is-lesser, first, last, Lies, off, before, past, inside, lies, ahead-off, ahead-before, ahead-past, ahead-inside}
 
 -- both boundaries of the region or subregion at p are of a kind B; and those of base region x and its subregions
@@ -67,6 +70,21 @@ module _ {B : ℕ → Type 0} (w : List ℕ) (o : ℕ) where
   ahead-found zero to b = none to
   ahead-found (suc n) to b =
       onward (ahead-found n to (λ x h. b x (omega arith))) (base-found n (ahead w n o to) (b n (omega arith)))
+
+  -- of the START up to which no other base region is active
+  pub active-found : (n to : ℕ) → ((x : ℕ) → x < n → RegionEnds B w x) → Found B o to (active w n o to .to)
+  unfolding active
+  active-found zero to b = none to
+  active-found (suc n) to b = onward (active-found n to (λ x h. b x (omega arith))) (by (lies w (base n) o))
+    where
+      a : Active
+      a = active w n o to
+
+      by : Lies w (base n) o → Found B o (a .to) (withRegion w n o a .to)
+      by (off e) = rw (← with-off w n o a e) (none (a .to))
+      by (before e l) = rw (← with-before w n o a e l) (nearer (first w (base n)) (a .to) (b n (omega arith) .0 .0) l)
+      by (past e l k) = rw (← with-past w n o a e l k) (none (a .to))
+      by (inside e l k) = rw (← with-inside w n o a e l k) (none (a .to))
 
 -- ---- of whatever kind, it is no further than `to`
 

@@ -2,7 +2,7 @@
 use mathlib.Core.Bool.{Bool, true, false, cond}
 use mathlib.Core.List.{List}
 use mathlib.Core.Path.{_≡_, refl, sym, ap, _∙_}
-use Prim.Native.Nat.{ℕ, zero, suc, _+_, _<_}
+use Prim.Native.Nat.{ℕ, zero, suc, _+_, _≤_, _<_}
 use native.Mathlib.Decide.{decLt}
 use native.Mathlib.Omega.{arith}
 use native.Mathlib.Numerals.{add-one}
@@ -28,11 +28,15 @@ module _ (w : List ℕ) (o from : ℕ) where
           rw same (sym e ∙ out)
 
 -- they say nothing
-pub masks-pass : (p : Bool) (adds : ℕ → ℕ) (w : List ℕ) (o r : ℕ) → Passed w o 0 r → masks p adds w 0 o ≡ masks p adds w r o
+pub masks-pass : (p : Bool) (adds : ℕ → ℕ) (w : List ℕ) (o from r : ℕ) → from ≤ r → Passed w o from r → masks p adds w from o ≡ masks p adds w r o
 unfolding masks baseGathered
-masks-pass p adds w o zero passed = refl
-masks-pass p adds w o (suc r) passed =
-    masks-pass p adds w o r (λ y a b. passed y a (omega arith)) ∙ rw (passed r (omega arith) (omega arith)) refl
+masks-pass p adds w o from zero h passed = let e : from ≡ 0 = omega arith in rw e
+masks-pass p adds w o from (suc r) h passed =
+    by (decLt from (suc r)) (λ l. masks-pass p adds w o from r l (λ y a b. passed y a (omega arith)))
+  where
+    by : Dec (from < suc r) → (from ≤ r → masks p adds w from o ≡ masks p adds w r o) → masks p adds w from o ≡ masks p adds w (suc r) o
+    by (yes l) earlier = earlier (omega arith) ∙ rw (passed r (omega arith) (omega arith)) refl
+    by (no l) earlier = let e : from ≡ suc r = omega arith in rw e
 
 -- one base region more, by the code's call
 pub masks-more : (p : Bool) (adds : ℕ → ℕ) (w : List ℕ) (n o : ℕ) {l m : Masks} → l ≡ masks p adds w n o → m ≡ baseGathered p adds w n o l

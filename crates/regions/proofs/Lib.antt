@@ -7,11 +7,13 @@ pub mod Enough
 pub mod Found
 pub mod Gathered
 pub mod Granted
+pub mod Inactive
 pub mod Lies
 pub mod MaskBits
 pub mod NamedBits
 pub mod OneTest
 pub mod Openings
+pub mod Parts
 pub mod Reasons
 pub mod RightsBits
 pub mod RightsBytes

@@ -7,6 +7,7 @@
 --     Masks     what the code gathers of the regions
 --     Admits    the tests, as the code makes them of that; proofs/AdmitsTests has the law that they are Rules
 --     Ahead     what the code of a map goes by; proofs/Stay has the law that the rights stay up to there
+--     Active    what the code of a map goes by; proofs/Inactive has the law that no other base region covers
 pub mod Words
 pub mod Rules
 pub mod Grants
@@ -15,3 +16,4 @@ pub mod Lent
 pub mod Masks
 pub mod Admits
 pub mod Ahead
+pub mod Active

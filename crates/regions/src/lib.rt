@@ -1,4 +1,6 @@
-// What the regions of a guard grant: the verdict on an access, the rights of all kinds of asking in one word, and up to where they stay.
+// What the regions of a guard grant: the verdict on an access, the rights of all kinds of asking in one word, up to where they stay, and
+// which base regions a sweep over them has to look at.
+mod active;
 mod admits;
 mod ahead;
 mod masks;
@@ -7,6 +9,8 @@ mod rights;
 pub mod rules;
 mod scan;
 
+pub use active::Active;
+pub use active::active_at;
 pub use rights::Stretch;
 pub use rights::rights_at;
 pub use rights::stretch_at;

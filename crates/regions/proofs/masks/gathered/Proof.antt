@@ -18,7 +18,7 @@ unfolding masks
 loop-holds c =
     let p = c .before .before .pre in
     let a = c .before .before .args in
-    (p .0, c .none-gathered .ensures ∙ masks-pass (a .privileged) (serving (a .by)) (a .w .now) (a .o) (a .from) (p .2))
+    (p .0, c .none-gathered .ensures ∙ masks-pass (a .privileged) (serving (a .by)) (a .w .now) (a .o) 0 (a .from) (omega arith) (p .2))
 
 loop-again : tie.Need-loop-again Inv-loop μ-loop
 loop-again c = (search needs, masks-more _ _ _ _ _ (c .before .before .loop .inv .1) (c .base-gathered .ensures))

@@ -1,11 +1,10 @@
 use borrow.Author.Needs.{needs}
-use mathlib.Core.Bool.{true, false, not, Bool·not-not}
-use mathlib.Core.Path.{_≡_, ap, sym, _∙_}
+use mathlib.Core.Bool.{true, false}
+use mathlib.Core.Path.{_∙_}
 use native.Mathlib.Omega.{arith}
-use Rattle.regions.specs.Masks.{someEnabled}
 use Rattle.regions.proofs.AdmitsTests.{none-covered}
 use Rattle.regions.proofs.Askings.{found-as, governed-none}
-use Rattle.regions.proofs.Enabled.{unenabled-uncovered}
+use Rattle.regions.proofs.Enabled.{told-none, unenabled-uncovered}
 use Rattle.regions.proofs.rules.governed.Statement.{statement}
 use Rattle.regions.proofs.rules.governed.Tie as tie
 
@@ -13,7 +12,7 @@ returns : tie.Need-returns
 returns c =
     let p = c .before .before .before .before in
     let a = p .args in
-    let e : someEnabled (a .w .now) 11 ≡ false = sym (Bool·not-not _) ∙ ap not (sym (c .before .none-enabled .ensures) ∙ c .if2 .taken) in
+    let e = told-none (a .w .now) (c .before .none-enabled .ensures) (c .if2 .taken) in
     governed-none (a .w .now) (a .n) (a .o) (a .k) (p .pre .2) (unenabled-uncovered (a .w .now) (a .n) (a .o) (p .pre .0) e)
 
 returns-2 : tie.Need-returns-2
