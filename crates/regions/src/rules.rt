@@ -97,16 +97,17 @@ fn default_reason(bus: Bus, k: Kind) -> u32
 }
 
 // The verdict of rule 1 or 2, packed. None of the base regions below `first` covers. Bit den of a subregion's CFGR enables the direction.
+// What the loop over the regions does not look at comes last: it is handed on in memory, and leaves the registers to the loop.
 fn by_regions(
     w: &[u32],
     first: usize,
     n: usize,
     o: u32,
+    privileged: bool,
+    den: u32,
     cid: Cid,
     write: bool,
-    privileged: bool,
     secure: bool,
-    den: u32,
 ) -> u32
     requires { ⌜ (first ≤ n) × (base n ≤ length (now w)) × Passed (now w) o 0 first × (cid .0 ≤ debugger .0) × (den ≤ wrenBit) ⌝ }
     ensures { λ r. ⌜ r ≡ packed (verdictOf (byAsked den (masks privileged (serving (servedBy (cid .0))) (now (w .entry)) n o)) (record { cid = cid; write = write; privileged = privileged; secure = secure })) ⌝ }
@@ -141,9 +142,9 @@ fn governed(w: &[u32], n: usize, o: u32, k: Kind) -> u32
     }
     let cid = k.cid;
     if k.write {
-        return by_regions(w, first, n, o, cid, true, k.privileged, k.secure, WREN);
+        return by_regions(w, first, n, o, k.privileged, WREN, cid, true, k.secure);
     }
-    by_regions(w, first, n, o, cid, false, k.privileged, k.secure, RDEN)
+    by_regions(w, first, n, o, k.privileged, RDEN, cid, false, k.secure)
 }
 
 // The verdict at an offset, by the words of n base regions. Too few words, or a CID over 7, are refused for the compartment.
