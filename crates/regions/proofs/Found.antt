@@ -1,7 +1,7 @@
 -- The boundary that is found ahead of an offset: it is ahead, and a boundary of one of the regions.
 use mathlib.Core.List.{List}
 use mathlib.Core.Logic.{_⊎_, inl, inr, ⊎-elim}
-use mathlib.Core.Path.{_≡_, refl, _∙_}
+use mathlib.Core.Path.{_≡_, refl, subst, _∙_}
 use Prim.Native.Nat.{ℕ, zero, suc, _+_, _≤_, _<_}
 use native.Mathlib.Omega.{arith}
 use Rattle.regions.specs.Active.{active, withRegion}
@@ -71,20 +71,23 @@ module _ {B : ℕ → Type 0} (w : List ℕ) (o : ℕ) where
   ahead-found (suc n) to b =
       onward (ahead-found n to (λ x h. b x (omega arith))) (base-found n (ahead w n o to) (b n (omega arith)))
 
+  more-found : (x : ℕ) (a : Active) → RegionEnds B w x → Found B o (a .to) (withRegion w x o a .to)
+  more-found x a b = by (lies w (base x) o)
+    where
+      found : {r : Active} → r ≡ withRegion w x o a → Found B o (a .to) (r .to) → Found B o (a .to) (withRegion w x o a .to)
+      found e f = subst (λ (r : Active). Found B o (a .to) (r .to)) e f
+
+      by : Lies w (base x) o → Found B o (a .to) (withRegion w x o a .to)
+      by (off e) = found (with-off w x o a e) (none (a .to))
+      by (before e l) = found (with-before w x o a e l) (nearer (first w (base x)) (a .to) (b .0 .0) l)
+      by (past e l k) = found (with-past w x o a e l k) (none (a .to))
+      by (inside e l k) = found (with-inside w x o a e l k) (none (a .to))
+
   -- of the START up to which no other base region is active
   pub active-found : (n to : ℕ) → ((x : ℕ) → x < n → RegionEnds B w x) → Found B o to (active w n o to .to)
   unfolding active
   active-found zero to b = none to
-  active-found (suc n) to b = onward (active-found n to (λ x h. b x (omega arith))) (by (lies w (base n) o))
-    where
-      a : Active
-      a = active w n o to
-
-      by : Lies w (base n) o → Found B o (a .to) (withRegion w n o a .to)
-      by (off e) = rw (← with-off w n o a e) (none (a .to))
-      by (before e l) = rw (← with-before w n o a e l) (nearer (first w (base n)) (a .to) (b n (omega arith) .0 .0) l)
-      by (past e l k) = rw (← with-past w n o a e l k) (none (a .to))
-      by (inside e l k) = rw (← with-inside w n o a e l k) (none (a .to))
+  active-found (suc n) to b = onward (active-found n to (λ x h. b x (omega arith))) (more-found n (active w n o to) (b n (omega arith)))
 
 -- ---- of whatever kind, it is no further than `to`
 

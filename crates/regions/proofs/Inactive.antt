@@ -1,7 +1,7 @@
 -- The base regions that are not active do not cover, up to where the active ones are said to be all.
 use mathlib.Core.Bool.{true, false, cond}
 use mathlib.Core.List.{List}
-use mathlib.Core.Path.{_≡_, refl, sym, ap, _∙_}
+use mathlib.Core.Path.{_≡_, refl, sym, ap, subst, _∙_}
 use Prim.Native.Nat.{ℕ, zero, suc, _+_, _≤_, _<_}
 use native.Mathlib.Decide.{decLt}
 use native.Mathlib.Numerals.{add-one}
@@ -77,24 +77,26 @@ module _ (w : List ℕ) (o : ℕ) where
             past = λ y l g x p q. absurd (omega arith);
           })
 
+  -- one more, each way that the offset lies to it
+  more : (n : ℕ) (a : Active) → Inactive n a → Inactive (suc n) (withRegion w n o a)
+  more n a i = by (lies w (base n) o)
+    where
+      by : Lies w (base n) o → Inactive (suc n) (withRegion w n o a)
+      by (off e) =
+          subst (Inactive (suc n)) (with-off w n o a e) (passes i (a .to) (omega arith) (λ y l g. ahead-off w (base n) y (λ t. t) 0 e .1))
+      by (before e b) =
+          let s = is-lesser (first w (base n)) (a .to) in
+          subst (Inactive (suc n)) (with-before w n o a e b)
+          (passes i (lesser (first w (base n)) (a .to)) (s .right) (λ y l g. ahead-before w (base n) y (λ t. t) 0 e (omega (arith, g, s .left)) .1))
+      by (past e b c) =
+          subst (Inactive (suc n)) (with-past w n o a e b c)
+          (passes i (a .to) (omega arith) (λ y l g. ahead-past w (base n) y (λ t. t) 0 e (omega arith) (omega arith) .1))
+      by (inside e b c) = subst (Inactive (suc n)) (with-inside w n o a e b c) (joins i)
+
   pub inactive : (n to : ℕ) → Inactive n (active w n o to)
   unfolding active
   inactive zero to = record { low = omega arith; high = omega arith; below = λ y l g. pass-none w y 0; past = λ y l g. pass-none w y 0 }
-  inactive (suc n) to = by (lies w (base n) o) (inactive n to)
-    where
-      a : Active
-      a = active w n o to
-
-      by : Lies w (base n) o → Inactive n a → Inactive (suc n) (withRegion w n o a)
-      by (off e) i = rw (← with-off w n o a e) (passes i (a .to) (omega arith) (λ y l g. ahead-off w (base n) y (λ t. t) 0 e .1))
-      by (before e b) i =
-          let s = is-lesser (first w (base n)) (a .to) in
-          rw (← with-before w n o a e b)
-          (passes i (lesser (first w (base n)) (a .to)) (s .right) (λ y l g. ahead-before w (base n) y (λ t. t) 0 e (omega (arith, g, s .left)) .1))
-      by (past e b c) i =
-          rw (← with-past w n o a e b c)
-          (passes i (a .to) (omega arith) (λ y l g. ahead-past w (base n) y (λ t. t) 0 e (omega arith) (omega arith) .1))
-      by (inside e b c) i = rw (← with-inside w n o a e b c) (joins i)
+  inactive (suc n) to = more n (active w n o to) (inactive n to)
 
   -- where none is enabled, none is active
   pub unenabled-inactive : (n to : ℕ) → n ≤ mostRegions → someEnabled w mostRegions ≡ false → noneActive to ≡ active w n o to

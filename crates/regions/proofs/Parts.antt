@@ -1,13 +1,13 @@
 -- The words of some base regions, one after the other, among those of all: where no other covers an offset, they give the same rights there.
-use mathlib.Core.Bool.{false}
+use mathlib.Core.Bool.{Bool, false, cond}
 use mathlib.Core.List.{List}
-use mathlib.Core.Path.{_≡_, sym, ap, _∙_}
+use mathlib.Core.Path.{_≡_, sym, ap, ap₂, _∙_}
 use Prim.Native.Nat.{ℕ, zero, suc, _+_, _≤_, _<_}
 use native.Mathlib.Omega.{arith}
 use lib.ListN.{getD}
 use Rattle.access.specs.declared.bus.Bus.{Bus}
 use Rattle.regions.specs.Admits.{asHeard, byMasks, rightsFrom}
-use Rattle.regions.specs.Masks.{Passed, baseGathered, masks, openings, subGathered}
+use Rattle.regions.specs.Masks.{Passed, baseGathered, masks, openings, subGathered, withBase, withSub}
 use Rattle.regions.specs.Rights.{rightsWord}
 use Rattle.regions.specs.Rules.{covers}
 use Rattle.regions.specs.Words.{base, sub, startAt, endAt, cidcfgrAt}
@@ -45,18 +45,22 @@ module _ (w : List ℕ) (low k : ℕ) (v : List ℕ) (is : IsPart w low k v) whe
   covers-at : (p q o : ℕ) → p + endAt < base k → base low + p ≡ q → covers v p o ≡ covers w q o
   covers-at p q o h e = let a = ends-at p q h e in rw (word-at p q (omega arith) e, a .0, a .1)
 
+  part-sub : (o x s : ℕ) (m : Masks) → x < k → s < 2 → subGathered false openings v x s o m ≡ subGathered false openings w (low + x) s o m
+  unfolding subGathered
+  part-sub o x s m h l =
+      ap₂ (λ (c : Bool) (r : Masks). cond c r m) (covers-at (sub x s) (sub (low + x) s) o (omega arith) (omega arith))
+      (ap₂ (λ (b i : ℕ). withSub false b i (openings i) m) (word-at (base x) (base (low + x)) (omega arith) (omega arith))
+      (word-at (sub x s) (sub (low + x) s) (omega arith) (omega arith)))
+
   part-gathered : (o x : ℕ) (m : Masks) → x < k → baseGathered false openings v x o m ≡ baseGathered false openings w (low + x) o m
-  unfolding baseGathered subGathered
+  unfolding baseGathered
   part-gathered o x m h =
-      rw (
-        covers-at (base x) (base (low + x)) o (omega arith) (omega arith),
-        covers-at (sub x 0) (sub (low + x) 0) o (omega arith) (omega arith),
-        covers-at (sub x 1) (sub (low + x) 1) o (omega arith) (omega arith),
-        word-at (base x) (base (low + x)) (omega arith) (omega arith),
-        word-at (base x + cidcfgrAt) (base (low + x) + cidcfgrAt) (omega arith) (omega arith),
-        word-at (sub x 0) (sub (low + x) 0) (omega arith) (omega arith),
-        word-at (sub x 1) (sub (low + x) 1) (omega arith) (omega arith),
-      )
+      let own =
+      ap₂ (λ (a b : ℕ). withBase a b m) (word-at (base x) (base (low + x)) (omega arith) (omega arith))
+      (word-at (base x + cidcfgrAt) (base (low + x) + cidcfgrAt) (omega arith) (omega arith)) in
+      let first = part-sub o x 0 _ h (omega arith) ∙ ap (subGathered false openings w (low + x) 0 o) own in
+      ap₂ (λ (c : Bool) (r : Masks). cond c r m) (covers-at (base x) (base (low + x)) o (omega arith) (omega arith))
+      (part-sub o x 1 _ h (omega arith) ∙ ap (subGathered false openings w (low + x) 1 o) first)
 
   part-masks : (o j : ℕ) → Passed w o 0 low → j ≤ k → masks false openings v j o ≡ masks false openings w (low + j) o
   unfolding masks
