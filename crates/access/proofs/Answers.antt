@@ -5,7 +5,7 @@ use Prim.Native.Nat.{◌≤◌}
 use lib.Dec.{lit≤}
 use types.Run.{OneOf, miss}
 use denote.Enum.Declared.{tag_of}
-use Rattle.access.specs.Answer.{whyNumber, number_of, left}
+use Rattle.access.specs.Answer.{why_number, number_of, left}
 use Rattle.access.specs.declared.answer.Why.{Why}
 use Rattle.access.specs.declared.answer.Why.TheVariants.{Locked, NoRegister, NoSuch, Misaligned, Outside, Fetch, WrongLength}
 use Rattle.access.specs.declared.answer.Answer.{Answer}
@@ -13,7 +13,7 @@ use Rattle.access.specs.declared.answer.Answer.TheVariants.{Done, Refused, Rejec
 use Rattle.access.specs.contracts.answer.Answer.{the_type}
 
 -- the number of a rejected event is none of the other two ways
-pub why-number : (why : Why) → (2 ≤ whyNumber why) × (whyNumber why ≤ 8)
+pub why-number : (why : Why) → (2 ≤ why_number why) × (why_number why ≤ 8)
 why-number Locked = (lit≤ tt, lit≤ tt)
 why-number NoRegister = (lit≤ tt, lit≤ tt)
 why-number NoSuch = (lit≤ tt, lit≤ tt)

@@ -5,19 +5,19 @@ use Rattle.access.specs.declared.answer.Why.TheVariants.{Locked, NoRegister, NoS
 use Rattle.access.specs.declared.answer.Answer.{Answer}
 use Rattle.access.specs.declared.answer.Answer.TheVariants.{Done, Refused, Rejected}
 
-abbrev pub whyNumber : Why → ℕ
-whyNumber Locked = 2
-whyNumber NoRegister = 3
-whyNumber NoSuch = 4
-whyNumber Misaligned = 5
-whyNumber Outside = 6
-whyNumber Fetch = 7
-whyNumber WrongLength = 8
+abbrev pub why_number : Why → ℕ
+why_number Locked = 2
+why_number NoRegister = 3
+why_number NoSuch = 4
+why_number Misaligned = 5
+why_number Outside = 6
+why_number Fetch = 7
+why_number WrongLength = 8
 
 abbrev pub number_of : Answer → ℕ
 number_of (Done v) = 0
 number_of (Refused v) = 1
-number_of (Rejected why) = whyNumber why
+number_of (Rejected why) = why_number why
 
 abbrev pub value_of : Answer → ℕ
 value_of (Done v) = v
@@ -25,8 +25,8 @@ value_of (Refused v) = v
 value_of (Rejected why) = 0
 
 -- an answer in memory and in C
-abbrev pub encodedOf : Answer → ℕ
-encodedOf a = 2 ^ 32 * number_of a + value_of a
+abbrev pub encoded_of : Answer → ℕ
+encoded_of a = 2 ^ 32 * number_of a + value_of a
 
 -- the column "left": the effect where it is done, the flags and fault registers where rights fail, else what was there
 abbrev pub left : {S : Type 0} → Answer → S → S → S → S

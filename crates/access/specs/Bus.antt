@@ -4,11 +4,11 @@ use Rattle.access.specs.declared.bus.Bus.TheVariants.{Axi, Ahb}
 use Rattle.access.specs.declared.kind.Cid.{Cid}
 use Rattle.access.specs.declared.kind.Kind.{Kind}
 
-abbrev pub heardCid : Bus → Cid → Cid
-heardCid Axi c = c
-heardCid Ahb c = record { 0 = 0 }
+abbrev pub heard_cid : Bus → Cid → Cid
+heard_cid Axi c = c
+heard_cid Ahb c = record { 0 = 0 }
 
 -- the asking as the bus hears it
 abbrev pub heard : Bus → Kind → Kind
 heard bus k =
-    record { cid = heardCid bus k.cid; write = k.write; privileged = k.privileged; secure = k.secure }
+    record { cid = heard_cid bus k.cid; write = k.write; privileged = k.privileged; secure = k.secure }

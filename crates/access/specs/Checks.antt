@@ -12,8 +12,8 @@ unless true refusal rest = rest
 unless false refusal rest = refusal
 
 -- unknown offset (3), 1, wrong direction (3), 2, effect. value is that of 0, reason that of 1
-unfoldable pub reachedWith : Checks → ℕ → ℕ → Answer
-reachedWith c value reason =
+unfoldable pub reached_with : Checks → ℕ → ℕ → Answer
+reached_with c value reason =
     unless c.known (Rejected NoRegister)
     (unless c.allowed (Refused reason)
     (unless c.direction (Rejected NoRegister)
@@ -21,17 +21,17 @@ reachedWith c value reason =
     (Done value))))
 
 -- 4, 5, 6, 7, and the rest
-unfoldable pub answeredWith : Checks → ℕ → ℕ → Answer
-answeredWith c value reason =
+unfoldable pub answered_with : Checks → ℕ → ℕ → Answer
+answered_with c value reason =
     unless c.present (Rejected NoSuch)
     (unless c.aligned (Rejected Misaligned)
     (unless c.inside (Rejected Outside)
     (unless c.fetchless (Rejected Fetch)
-    (reachedWith c value reason))))
+    (reached_with c value reason))))
 
 -- of an event whose refusals have no reason: "for memory and master accesses number 1 gives the reason, elsewhere 0" (Q-5)
 abbrev pub reached : Checks → ℕ → Answer
-reached c value = reachedWith c value 0
+reached c value = reached_with c value 0
 
 abbrev pub answered : Checks → ℕ → Answer
-answered c value = answeredWith c value 0
+answered c value = answered_with c value 0

@@ -12,12 +12,12 @@ abbrev pub debugger : Cid
 debugger = record { 0 = 7 }
 
 -- a compartment number is at most 7
-abbrev pub isCid : Cid → Bool
-isCid c = leb c.0 debugger.0
+abbrev pub is_cid : Cid → Bool
+is_cid c = leb c.0 debugger.0
 
 -- the bit of a rights word for a kind of asking
-abbrev pub rightsBit : Kind → ℕ
-rightsBit k = k.cid.0 + 8 * (one k.write + 2 * one k.privileged + 4 * one k.secure)
+abbrev pub rights_bit : Kind → ℕ
+rights_bit k = k.cid.0 + 8 * (one k.write + 2 * one k.privileged + 4 * one k.secure)
 
 -- the kind of asking that bit b is for
 abbrev pub kind_of : ℕ → Kind

@@ -1,5 +1,5 @@
 ghost use Rattle.std.specs.Prelude.{◌≡◌};
-ghost use Rattle.access.specs.Answer.{encodedOf, number_of, value_of, whyNumber};
+ghost use Rattle.access.specs.Answer.{encoded_of, number_of, value_of, why_number};
 
 // Why an event is rejected: it leaves the state as it was.
 #[derive(Drop)]
@@ -23,7 +23,7 @@ pub enum Answer {
 
 impl Why {
     fn number(self) -> u64
-        ensures { result ≡ whyNumber self }
+        ensures { result ≡ why_number self }
     {
         match self {
             Why::Locked => 2,
@@ -61,7 +61,7 @@ impl Answer {
 
     // The answer in memory and in C.
     pub fn encoded(self) -> u64
-        ensures { result ≡ encodedOf self }
+        ensures { result ≡ encoded_of self }
     {
         0x1_0000_0000 * self.number() + self.value() as u64
     }

@@ -1,5 +1,5 @@
 ghost use Rattle.std.specs.Prelude.{◌≡◌};
-ghost use Rattle.access.specs.Bus.{heard, heardCid};
+ghost use Rattle.access.specs.Bus.{heard, heard_cid};
 
 use crate::{Cid, Kind};
 
@@ -16,7 +16,7 @@ const NO_CID: Cid = Cid(0);
 impl Bus {
     // The compartment that an access is heard with.
     fn hears_cid(self, cid: Cid) -> Cid
-        ensures { result ≡ heardCid self cid }
+        ensures { result ≡ heard_cid self cid }
     {
         match self {
             Bus::Axi => cid,

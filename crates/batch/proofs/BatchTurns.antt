@@ -8,13 +8,13 @@ use lib.Dec.{leb}
 use lib.ListN.{length, get_or, set, drop}
 use lib.Seq.{drop-cons, drop-length, sets, sets-eq}
 use borrow.Author.Tests.{leb-true}
-use Rattle.access.specs.Answer.{encodedOf}
+use Rattle.access.specs.Answer.{encoded_of}
 use Rattle.access.specs.Kind.{kind_of}
-use Rattle.device.specs.Applied.{sized, appliedAnswer, appliedState}
-use Rattle.batch.specs.Batch.{fits, applied, appliedAnswers, batched, batchState, batchAnswers}
+use Rattle.device.specs.Applied.{sized, applied_answer, applied_state}
+use Rattle.batch.specs.Batch.{fits, applied, applied_answers, batched, batch_state, batch_answers}
 use Rattle.batch.specs.declared.batches.Batched.{Batched}
 use Rattle.batch.specs.declared.batches.Batched.TheVariants.{Done, WrongLength}
-use Rattle.device.specs.Layout.{stateWords}
+use Rattle.device.specs.Layout.{state_words}
 use Rattle.device.specs.declared.event.MemoryAccess.{MemoryAccess}
 use Rattle.device.specs.declared.event.Event.TheVariants.{Memory}
 
@@ -24,12 +24,12 @@ none = record { guard = record { 0 = 0 }; offset = 0; width = 0; kind = kind_of 
 
 -- the answers to accesses, as they are stored
 abbrev coded : List MemoryAccess → List ℕ → List ℕ
-coded ys m = map encodedOf (appliedAnswers (map Memory ys) m)
+coded ys m = map encoded_of (applied_answers (map Memory ys) m)
 
 length-coded : (ys : List MemoryAccess) (m : List ℕ) → length (coded ys m) ≡ length ys
-unfolding appliedAnswers
+unfolding applied_answers
 length-coded [] m = refl
-length-coded (y ∷ ys) m = ap suc (length-coded ys (appliedState (Memory y) m))
+length-coded (y ∷ ys) m = ap suc (length-coded ys (applied_state (Memory y) m))
 
 -- both of two tests are passed
 pub first : (a b : Bool) → (a && b) ≡ true → a ≡ true
@@ -43,29 +43,29 @@ second false b e = cc
 -- what one access does to the two memories
 abbrev pub Does : MemoryAccess → ℕ → (st an st' an' : List ℕ) → Type 0
 Does y i st an st' an' =
-    (st' ≡ appliedState (Memory y) st) × (an' ≡ set an i (encodedOf (appliedAnswer (Memory y) st)))
+    (st' ≡ applied_state (Memory y) st) × (an' ≡ set an i (encoded_of (applied_answer (Memory y) st)))
 
 -- a batch from the memories st₀ and an₀
 module _ (st₀ : List ℕ) (ys : List MemoryAccess) (an₀ : List ℕ) where
   -- what it ensures of its answer and of the two memories
   abbrev pub Ensured : Batched → (st an : List ℕ) → Type 0
   Ensured r st an =
-      (r ≡ batched st₀ ys an₀) × ((st ≡ batchState st₀ ys an₀) × (an ≡ batchAnswers st₀ ys an₀))
+      (r ≡ batched st₀ ys an₀) × ((st ≡ batch_state st₀ ys an₀) × (an ≡ batch_answers st₀ ys an₀))
 
   -- what holds where i accesses are done and t are left
   pub record Kept (t i : ℕ) (st an : List ℕ) : Type 0 where
     pub left : t + i ≡ length ys
-    pub words : length st ≡ stateWords
+    pub words : length st ≡ state_words
     pub places : length an ≡ length an₀
     pub state : applied (map Memory (drop i ys)) st ≡ applied (map Memory ys) st₀
     pub stored : sets an i (coded (drop i ys) st) ≡ sets an₀ 0 (coded ys st₀)
 
-  pub kept-first : length st₀ ≡ stateWords → Kept (length ys) 0 st₀ an₀
+  pub kept-first : length st₀ ≡ state_words → Kept (length ys) 0 st₀ an₀
   kept-first h = record { left = omega arith; words = h; places = refl; state = refl; stored = refl }
 
   pub kept_next : (t i : ℕ) (st an st' an' : List ℕ) → Kept (suc t) i st an → length st' ≡ length st → length an' ≡ length an
       → Does (get_or ys i none) i st an st' an' → Kept t (suc i) st' an'
-  unfolding applied appliedAnswers
+  unfolding applied applied_answers
   kept_next t i st an st' an' k e₁ e₃ d =
       let here : drop i ys ≡ get_or ys i none ∷ drop (suc i) ys = drop-cons ys i none (omega (arith, k.left)) in
       record {
@@ -79,7 +79,7 @@ module _ (st₀ : List ℕ) (ys : List MemoryAccess) (an₀ : List ℕ) where
       }
 
   pub kept-last : (st an : List ℕ) → fits st₀ ys an₀ ≡ true → Kept 0 (length ys) st an → Ensured (Done 0) st an
-  unfolding applied appliedAnswers batched batchState batchAnswers
+  unfolding applied applied_answers batched batch_state batch_answers
   kept-last st an f k =
       let end : drop (length ys) ys ≡ [] = drop-length ys in
       let long : 0 + length (coded ys st₀) ≡ length ys = omega (arith, length-coded ys st₀) in
@@ -91,5 +91,5 @@ module _ (st₀ : List ℕ) (ys : List MemoryAccess) (an₀ : List ℕ) where
       simp f (refl, (state, stored))
 
   pub none_done : fits st₀ ys an₀ ≡ false → Ensured WrongLength st₀ an₀
-  unfolding batched batchState batchAnswers
+  unfolding batched batch_state batch_answers
   none_done f = simp f (refl, (refl, refl))

@@ -1,8 +1,8 @@
 ghost use Rattle.std.specs.Prelude.{◌≡◌, ◌<◌, ◌&&◌, eqb, leb, length, set};
-ghost use Rattle.access.specs.Answer.{encodedOf};
-ghost use Rattle.batch.specs.Batch.{endAnswer, batchAnswers, batchState, batched};
-ghost use Rattle.device.specs.Applied.{appliedAnswer, appliedState};
-ghost use Rattle.device.specs.Layout.{stateWords};
+ghost use Rattle.access.specs.Answer.{encoded_of};
+ghost use Rattle.batch.specs.Batch.{end_answer, batch_answers, batch_state, batched};
+ghost use Rattle.device.specs.Applied.{applied_answer, applied_state};
+ghost use Rattle.device.specs.Layout.{state_words};
 ghost use Rattle.device.specs.declared.event.Event.TheVariants.{Memory};
 
 use access::{Answer, Why};
@@ -18,7 +18,7 @@ pub enum Batched {
 impl Batched {
     // The answer in memory and in C.
     pub fn encoded(self) -> u64
-        ensures { result ≡ encodedOf (endAnswer self) }
+        ensures { result ≡ encoded_of (end_answer self) }
     {
         match self {
             Batched::Done(value) => Answer::Done(value).encoded(),
@@ -29,16 +29,16 @@ impl Batched {
 
 // Whether a batch is done: the state has its length, and each access a place for its answer.
 fn fits(words: usize, accesses: usize, places: usize) -> bool
-    ensures { result ≡ (eqb words stateWords && leb accesses places) }
+    ensures { result ≡ (eqb words state_words && leb accesses places) }
 {
     (words == STATE_WORDS) & (accesses <= places)
 }
 
 // One access of a batch, its answer stored at place i.
 fn one(state: &mut [u32], answers: &mut [u64], i: usize, a: MemoryAccess)
-    requires { (length state.old ≡ stateWords) × (i < length answers.old) }
-    ensures { (state.new ≡ appliedState (Memory a) state.old)
-        × (answers.new ≡ set answers.old i (encodedOf (appliedAnswer (Memory a) state.old))) }
+    requires { (length state.old ≡ state_words) × (i < length answers.old) }
+    ensures { (state.new ≡ applied_state (Memory a) state.old)
+        × (answers.new ≡ set answers.old i (encoded_of (applied_answer (Memory a) state.old))) }
 {
     let answer = device::memory_encoded(state, a.guard, a.offset, a.width, a.kind);
     answers[i] = answer;
@@ -47,8 +47,8 @@ fn one(state: &mut [u32], answers: &mut [u64], i: usize, a: MemoryAccess)
 // A batch of memory accesses, one after the other: answer i is to access i. Where lent memory is of the wrong length none of them is done.
 pub fn batch(state: &mut [u32], list: &[MemoryAccess], answers: &mut [u64]) -> Batched
     ensures answer { result ≡ batched state.old list.now answers.old }
-    ensures next { state.new ≡ batchState state.old list.now answers.old }
-    ensures answers { answers.new ≡ batchAnswers state.old list.now answers.old }
+    ensures next { state.new ≡ batch_state state.old list.now answers.old }
+    ensures answers { answers.new ≡ batch_answers state.old list.now answers.old }
 {
     let n = list.len();
     if !fits(state.len(), n, answers.len()) {

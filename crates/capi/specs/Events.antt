@@ -1,12 +1,12 @@
 -- The events that the numbers of a call from C ask for. The arguments are those of the header, in its order.
 use Rattle.std.specs.Prelude.{Bool, cond, List, ℕ}
-use Rattle.access.specs.Answer.{encodedOf}
+use Rattle.access.specs.Answer.{encoded_of}
 use Rattle.access.specs.declared.answer.Answer.TheVariants.{Rejected}
 use Rattle.access.specs.declared.answer.Why.TheVariants.{NoSuch, WrongLength}
-use Rattle.device.specs.Applied.{sized, appliedAnswer, appliedState}
+use Rattle.device.specs.Applied.{sized, applied_answer, applied_state}
 use Rattle.device.specs.declared.event.Event.{Event}
 use Rattle.device.specs.declared.event.Event.TheVariants.{Register, Peripheral, Memory, Master}
-use Rattle.capi.specs.Numbers.{blockNumbered, operationNumbered}
+use Rattle.capi.specs.Numbers.{block_numbered, operation_numbered}
 use Rattle.capi.specs.declared.numbers.NamedBlock.{NamedBlock}
 use Rattle.capi.specs.declared.numbers.NamedBlock.TheVariants.{Is, NoBlock}
 use Rattle.capi.specs.declared.numbers.NamedOperation.{NamedOperation}
@@ -18,8 +18,8 @@ pub data Asked : Type 0 where
   event : Event → Asked
   nothing : Asked
 
-unfoldable pub registerAsked : ℕ → ℕ → ℕ → Bool → ℕ → Bool → Bool → Asked
-registerAsked block guard offset write value secure privileged = at (blockNumbered block guard)
+unfoldable pub register_asked : ℕ → ℕ → ℕ → Bool → ℕ → Bool → Bool → Asked
+register_asked block guard offset write value secure privileged = at (block_numbered block guard)
   where
     at : NamedBlock → Asked
     at (Is b) =
@@ -31,8 +31,8 @@ registerAsked block guard offset write value secure privileged = at (blockNumber
         }))
     at NoBlock = nothing
 
-unfoldable pub peripheralAsked : ℕ → ℕ → Bool → Bool → Asked
-peripheralAsked peripheral operation secure privileged = to (operationNumbered operation)
+unfoldable pub peripheral_asked : ℕ → ℕ → Bool → Bool → Asked
+peripheral_asked peripheral operation secure privileged = to (operation_numbered operation)
   where
     to : NamedOperation → Asked
     to (Does o) =
@@ -42,18 +42,18 @@ peripheralAsked peripheral operation secure privileged = to (operationNumbered o
     to NoOperation = nothing
 
 -- its answer, as C has it: 4 to nothing, but 8 comes first
-unfoldable pub askedAnswer : Asked → List ℕ → ℕ
-askedAnswer (event e) m = encodedOf (appliedAnswer e m)
-askedAnswer nothing m = encodedOf (Rejected (cond (sized m) NoSuch WrongLength))
+unfoldable pub asked_answer : Asked → List ℕ → ℕ
+asked_answer (event e) m = encoded_of (applied_answer e m)
+asked_answer nothing m = encoded_of (Rejected (cond (sized m) NoSuch WrongLength))
 
-unfoldable pub askedState : Asked → List ℕ → List ℕ
-askedState (event e) m = appliedState e m
-askedState nothing m = m
+unfoldable pub asked_state : Asked → List ℕ → List ℕ
+asked_state (event e) m = applied_state e m
+asked_state nothing m = m
 
 -- ---- events whose numbers all stand for something
 
-unfoldable pub memoryEvent : ℕ → ℕ → ℕ → Bool → ℕ → Bool → Bool → Event
-memoryEvent guard offset width write cid secure privileged =
+unfoldable pub memory_event : ℕ → ℕ → ℕ → Bool → ℕ → Bool → Bool → Event
+memory_event guard offset width write cid secure privileged =
     Memory
     (record {
       guard = record { 0 = guard };
@@ -62,8 +62,8 @@ memoryEvent guard offset width write cid secure privileged =
       kind = record { cid = record { 0 = cid }; write = write; privileged = privileged; secure = secure };
     })
 
-unfoldable pub masterEvent : ℕ → ℕ → ℕ → ℕ → Bool → Event
-masterEvent master guard offset width write =
+unfoldable pub master_event : ℕ → ℕ → ℕ → ℕ → Bool → Event
+master_event master guard offset width write =
     Master
     (record {
       master = record { 0 = master };

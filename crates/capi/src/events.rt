@@ -1,15 +1,15 @@
 ghost use Rattle.std.specs.Prelude.{◌≡◌};
-ghost use Rattle.access.specs.Answer.{encodedOf};
-ghost use Rattle.device.specs.Applied.{appliedAnswer, appliedState, lineAnswer};
+ghost use Rattle.access.specs.Answer.{encoded_of};
+ghost use Rattle.device.specs.Applied.{applied_answer, applied_state, line_answer};
 ghost use Rattle.device.specs.declared.event.Event.TheVariants.{Reset};
 ghost use Rattle.capi.specs.Events.{
-  askedAnswer,
-  askedState,
-  masterEvent,
-  memoryEvent,
+  asked_answer,
+  asked_state,
+  master_event,
+  memory_event,
   nothing,
-  peripheralAsked,
-  registerAsked,
+  peripheral_asked,
+  register_asked,
 };
 
 use crate::numbers::{NamedBlock, NamedOperation, block_numbered, operation_numbered};
@@ -20,7 +20,7 @@ use risaf::GuardNumber;
 
 // The answer where a number stands for nothing: 4, but 8 comes first.
 fn nothing(state: &[u32]) -> u64
-    ensures { result ≡ askedAnswer nothing state.now }
+    ensures { result ≡ asked_answer nothing state.now }
 {
     if state.len() == device::STATE_WORDS {
         Answer::Rejected(Why::NoSuch).encoded()
@@ -31,8 +31,8 @@ fn nothing(state: &[u32]) -> u64
 
 #[unsafe(no_mangle)]
 pub extern "C" fn rif_reset(state: &mut [u32]) -> u64
-    ensures answer { result ≡ encodedOf (appliedAnswer Reset state.old) }
-    ensures next { state.new ≡ appliedState Reset state.old }
+    ensures answer { result ≡ encoded_of (applied_answer Reset state.old) }
+    ensures next { state.new ≡ applied_state Reset state.old }
 {
     device::apply_reset(state).encoded()
 }
@@ -48,8 +48,8 @@ pub extern "C" fn rif_register(
     secure: bool,
     privileged: bool,
 ) -> u64
-    ensures answer { result ≡ askedAnswer (registerAsked block guard offset write value secure privileged) state.old }
-    ensures next { state.new ≡ askedState (registerAsked block guard offset write value secure privileged) state.old }
+    ensures answer { result ≡ asked_answer (register_asked block guard offset write value secure privileged) state.old }
+    ensures next { state.new ≡ asked_state (register_asked block guard offset write value secure privileged) state.old }
 {
     let NamedBlock::Is(block) = block_numbered(block, guard) else {
         return nothing(state);
@@ -72,8 +72,8 @@ pub extern "C" fn rif_peripheral(
     secure: bool,
     privileged: bool,
 ) -> u64
-    ensures answer { result ≡ askedAnswer (peripheralAsked peripheral operation secure privileged) state.old }
-    ensures next { state.new ≡ askedState (peripheralAsked peripheral operation secure privileged) state.old }
+    ensures answer { result ≡ asked_answer (peripheral_asked peripheral operation secure privileged) state.old }
+    ensures next { state.new ≡ asked_state (peripheral_asked peripheral operation secure privileged) state.old }
 {
     let NamedOperation::Does(operation) = operation_numbered(operation) else {
         return nothing(state);
@@ -98,8 +98,8 @@ pub extern "C" fn rif_memory(
     secure: bool,
     privileged: bool,
 ) -> u64
-    ensures answer { result ≡ encodedOf (appliedAnswer (memoryEvent guard offset width write cid secure privileged) state.old) }
-    ensures next { state.new ≡ appliedState (memoryEvent guard offset width write cid secure privileged) state.old }
+    ensures answer { result ≡ encoded_of (applied_answer (memory_event guard offset width write cid secure privileged) state.old) }
+    ensures next { state.new ≡ applied_state (memory_event guard offset width write cid secure privileged) state.old }
 {
     let kind = Kind {
         cid: Cid(cid),
@@ -119,8 +119,8 @@ pub extern "C" fn rif_master(
     width: u32,
     write: bool,
 ) -> u64
-    ensures answer { result ≡ encodedOf (appliedAnswer (masterEvent master guard offset width write) state.old) }
-    ensures next { state.new ≡ appliedState (masterEvent master guard offset width write) state.old }
+    ensures answer { result ≡ encoded_of (applied_answer (master_event master guard offset width write) state.old) }
+    ensures next { state.new ≡ applied_state (master_event master guard offset width write) state.old }
 {
     let access = MasterAccess {
         master: MasterNumber(master),
@@ -135,7 +135,7 @@ pub extern "C" fn rif_master(
 // The interrupt line. Where the length is known the answer is, and needs no look to be encoded.
 #[unsafe(no_mangle)]
 pub extern "C" fn rif_line(state: &[u32]) -> u64
-    ensures { result ≡ encodedOf (lineAnswer state.now) }
+    ensures { result ≡ encoded_of (line_answer state.now) }
 {
     if state.len() == device::STATE_WORDS {
         device::interrupt_line(state).encoded()

@@ -1,17 +1,17 @@
 ghost use Rattle.std.specs.Prelude.{◌≡◌, get_or, length};
-ghost use Rattle.access.specs.Answer.{encodedOf};
-ghost use Rattle.diff.specs.Fill.{diffAnswer, diffNumbers, diffUsed};
-ghost use Rattle.map.specs.Fill.{fillAnswer, fillNumbers, fillUsed};
-ghost use Rattle.spans.specs.Lookup.{lookupIn};
+ghost use Rattle.access.specs.Answer.{encoded_of};
+ghost use Rattle.diff.specs.Fill.{diff_answer, diff_numbers, diff_used};
+ghost use Rattle.map.specs.Fill.{fill_answer, fill_numbers, fill_used};
+ghost use Rattle.spans.specs.Lookup.{lookup_in};
 
 use map::fill::ROW_NUMBERS;
 use risaf::GuardNumber;
 
 #[unsafe(no_mangle)]
 pub extern "C" fn rif_map(state: &[u32], guard: u32, numbers: &mut [u64], used: &mut u64) -> u64
-    ensures answer { result ≡ encodedOf (fillAnswer state.now guard numbers.old) }
-    ensures map { numbers.new ≡ fillNumbers state.now guard numbers.old }
-    ensures count { used.new ≡ fillUsed state.now guard numbers.old }
+    ensures answer { result ≡ encoded_of (fill_answer state.now guard numbers.old) }
+    ensures map { numbers.new ≡ fill_numbers state.now guard numbers.old }
+    ensures count { used.new ≡ fill_used state.now guard numbers.old }
 {
     let filled = map::fill::fill(state, GuardNumber(guard), numbers);
     *used = filled.used as u64;
@@ -28,10 +28,10 @@ pub extern "C" fn rif_lookup(
     end: &mut u64,
     rights: &mut u64,
 ) -> u64
-    ensures count { result ≡ length (lookupIn numbers.now offset) }
-    ensures start { start.new ≡ get_or (lookupIn numbers.now offset) 0 start.old }
-    ensures end { end.new ≡ get_or (lookupIn numbers.now offset) 1 end.old }
-    ensures rights { rights.new ≡ get_or (lookupIn numbers.now offset) 2 rights.old }
+    ensures count { result ≡ length (lookup_in numbers.now offset) }
+    ensures start { start.new ≡ get_or (lookup_in numbers.now offset) 0 start.old }
+    ensures end { end.new ≡ get_or (lookup_in numbers.now offset) 1 end.old }
+    ensures rights { rights.new ≡ get_or (lookup_in numbers.now offset) 2 rights.old }
 {
     let row = map::lookup(numbers, offset);
     if row.len() == ROW_NUMBERS {
@@ -51,9 +51,9 @@ pub extern "C" fn rif_diff(
     numbers: &mut [u64],
     used: &mut u64,
 ) -> u64
-    ensures answer { result ≡ encodedOf (diffAnswer guard before.now after.now numbers.old) }
-    ensures rows { numbers.new ≡ diffNumbers guard before.now after.now numbers.old }
-    ensures count { used.new ≡ diffUsed guard before.now after.now numbers.old }
+    ensures answer { result ≡ encoded_of (diff_answer guard before.now after.now numbers.old) }
+    ensures rows { numbers.new ≡ diff_numbers guard before.now after.now numbers.old }
+    ensures count { used.new ≡ diff_used guard before.now after.now numbers.old }
 {
     let result = diff::fill::fill(GuardNumber(guard), before, after, numbers);
     *used = result.used as u64;

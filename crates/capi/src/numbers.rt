@@ -1,6 +1,6 @@
 // What a number of a call stands for.
 ghost use Rattle.std.specs.Prelude.{◌≡◌};
-ghost use Rattle.capi.specs.Numbers.{blockNumbered, operationNumbered};
+ghost use Rattle.capi.specs.Numbers.{block_numbered, operation_numbered};
 
 use device::{Block, Operation};
 use risaf::GuardNumber;
@@ -19,7 +19,7 @@ pub(crate) enum NamedOperation {
 
 // Block 2 is the RISAF that the guard's number says.
 pub(crate) fn block_numbered(block: u32, guard: u32) -> NamedBlock
-    ensures { result ≡ blockNumbered block guard }
+    ensures { result ≡ block_numbered block guard }
 {
     match block {
         0 => NamedBlock::Is(Block::Rifsc),
@@ -30,7 +30,7 @@ pub(crate) fn block_numbered(block: u32, guard: u32) -> NamedBlock
 }
 
 pub(crate) fn operation_numbered(operation: u32) -> NamedOperation
-    ensures { result ≡ operationNumbered operation }
+    ensures { result ≡ operation_numbered operation }
 {
     match operation {
         0 => NamedOperation::Does(Operation::Read),

@@ -7,19 +7,19 @@ use lib.ListN.{length}
 use Rattle.access.specs.declared.answer.Answer.{Answer}
 use Rattle.access.specs.declared.answer.Answer.TheVariants.{Rejected}
 use Rattle.access.specs.declared.answer.Why.TheVariants.{WrongLength}
-use Rattle.device.specs.Applied.{appliedAnswer, appliedState}
-use Rattle.device.specs.Layout.{layout, state_of, stateWords}
+use Rattle.device.specs.Applied.{applied_answer, applied_state}
+use Rattle.device.specs.Layout.{layout, state_of, state_words}
 use Rattle.device.specs.Step.{step}
 use Rattle.device.specs.declared.event.Event.{Event}
 use Rattle.device.proofs.StateLayout.{layout_of}
 
 module _ (e : Event) (m : List ℕ) where
-  pub other_length : (length m ≡ stateWords → ⊥) → (Rejected WrongLength ≡ appliedAnswer e m) × (m ≡ appliedState e m)
-  unfolding appliedAnswer appliedState
-  other_length h = rw (ne_eqb (length m) stateWords h) (refl, refl)
+  pub other_length : (length m ≡ state_words → ⊥) → (Rejected WrongLength ≡ applied_answer e m) × (m ≡ applied_state e m)
+  unfolding applied_answer applied_state
+  other_length h = rw (ne_eqb (length m) state_words h) (refl, refl)
 
-  pub own-length : {a : Answer} {m' : List ℕ} → length m ≡ stateWords → length m' ≡ length m → a ≡ (step e (state_of m)).answer
-      → state_of m' ≡ (step e (state_of m)).next → (a ≡ appliedAnswer e m) × (m' ≡ appliedState e m)
-  unfolding appliedAnswer appliedState
+  pub own-length : {a : Answer} {m' : List ℕ} → length m ≡ state_words → length m' ≡ length m → a ≡ (step e (state_of m)).answer
+      → state_of m' ≡ (step e (state_of m)).next → (a ≡ applied_answer e m) × (m' ≡ applied_state e m)
+  unfolding applied_answer applied_state
   own-length {a} {m'} h k answer next =
-      rw (eq-eqb (length m) stateWords h) (answer, sym (layout_of m' (k ∙ h)) ∙ ap layout next)
+      rw (eq-eqb (length m) state_words h) (answer, sym (layout_of m' (k ∙ h)) ∙ ap layout next)

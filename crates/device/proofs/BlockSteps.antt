@@ -9,7 +9,7 @@ use Rattle.access.specs.contracts.answer.Answer.{the_type}
 use lib.Dec.{eqb}
 use borrow.Author.Tests.{ne_eqb}
 use Rattle.access.specs.Answer.{left}
-use Rattle.access.specs.Checks.{answeredWith, unless}
+use Rattle.access.specs.Checks.{answered_with, unless}
 use Rattle.access.specs.declared.answer.Why.{Why}
 use Rattle.access.specs.declared.answer.Why.TheVariants.{Misaligned, NoRegister}
 use Rattle.access.specs.declared.answer.Answer.{Answer}
@@ -17,8 +17,8 @@ use Rattle.access.specs.declared.answer.Answer.TheVariants.{Done, Refused, Rejec
 use Rattle.access.specs.declared.request.Request.{Request}
 use Rattle.rifsc.specs.Port as rifsc
 use Rattle.rifsc.proofs.PortLaws.{read_is}
-use Rattle.rifsc.specs.Contents.{seen, stored, withStored}
-use Rattle.rifsc.specs.Registers.{registerAt, row_of}
+use Rattle.rifsc.specs.Contents.{seen, stored, with_stored}
+use Rattle.rifsc.specs.Registers.{register_at, row_of}
 use Rattle.rifsc.specs.declared.port.Accessed.{Accessed}
 use Rattle.rifsc.specs.declared.port.Seen.{Seen}
 use Rattle.rifsc.specs.declared.registers.Register.{Register}
@@ -31,36 +31,36 @@ use Rattle.iac.specs.Registers as iac-registers
 use Rattle.iac.specs.declared.port.Accessed.{Accessed as IacAccessed}
 use Rattle.iac.specs.declared.registers.Register.{Register as IacRegister}
 use Rattle.iac.specs.declared.registers.Row.{Row as IacRow}
-use Rattle.device.specs.State.{State, flagged, withRifsc, withIac}
-use Rattle.device.specs.Step.{Outcome, settled, rifscFlag, iacFlag, registerStep}
+use Rattle.device.specs.State.{State, flagged, with_rifsc, with_iac}
+use Rattle.device.specs.Step.{Outcome, settled, rifsc_flag, iac_flag, register_step}
 use Rattle.device.specs.declared.event.Block.TheVariants.{Rifsc, Iac}
 
 -- ---- an offset that is no multiple of 4
 
 module _ (s : State) (q : Request) (h : q.offset % 4 ≡ 0 → ⊥) where
-  pub controller-misaligned : (Rejected Misaligned ≡ (registerStep Rifsc q s).answer) × (s ≡ (registerStep Rifsc q s).next)
-  unfolding registerStep rifsc.stepped rifsc.answer_of rifsc.checksOf answeredWith
+  pub controller-misaligned : (Rejected Misaligned ≡ (register_step Rifsc q s).answer) × (s ≡ (register_step Rifsc q s).next)
+  unfolding register_step rifsc.stepped rifsc.answer_of rifsc.checks_of answered_with
   controller-misaligned = rw (ne_eqb (q.offset % 4) 0 h) (refl, refl)
 
-  pub flags-misaligned : (Rejected Misaligned ≡ (registerStep Iac q s).answer) × (s ≡ (registerStep Iac q s).next)
-  unfolding registerStep iac.stepped iac.answer_of iac.checksOf answeredWith
+  pub flags-misaligned : (Rejected Misaligned ≡ (register_step Iac q s).answer) × (s ≡ (register_step Iac q s).next)
+  unfolding register_step iac.stepped iac.answer_of iac.checks_of answered_with
   flags-misaligned = rw (ne_eqb (q.offset % 4) 0 h) (refl, refl)
 
 -- ---- the controller, by what the code's calls give
 
 -- a read, which is never refused
 module _ (s : State) (q : Request) (w : q.write ≡ false) {reg : Register} {row : Row} {x : ℕ} {a : Answer}
-    (eg : reg ≡ registerAt q.offset) (er : row ≡ row_of reg) (ex : x ≡ stored s.rifsc reg)
-    (ea : a ≡ rifsc.readAnswer row x q.offset) where
+    (eg : reg ≡ register_at q.offset) (er : row ≡ row_of reg) (ex : x ≡ stored s.rifsc reg)
+    (ea : a ≡ rifsc.read_answer row x q.offset) where
   abbrev answering : Answer → Outcome
-  answering b = settled b rifscFlag s (withRifsc s (left b s.rifsc s.rifsc s.rifsc))
+  answering b = settled b rifsc_flag s (with_rifsc s (left b s.rifsc s.rifsc s.rifsc))
 
-  read_step : registerStep Rifsc q s ≡ answering a
-  unfolding registerStep rifsc.stepped rifsc.written seen
-  read_step = rw (ea, ex, er, eg) (rw (read_is (row_of (registerAt q.offset)) _ _ q w, w) refl)
+  read_step : register_step Rifsc q s ≡ answering a
+  unfolding register_step rifsc.stepped rifsc.written seen
+  read_step = rw (ea, ex, er, eg) (rw (read_is (row_of (register_at q.offset)) _ _ q w, w) refl)
 
   kept : s ≡ (answering a).next
-  unfolding rifsc.readAnswer
+  unfolding rifsc.read_answer
   kept = rw ea (by (eqb (q.offset % 4) 0) row.known)
     where
       by : (b k : Bool) → s ≡ (answering (unless b (Rejected Misaligned) (unless k (Rejected NoRegister) (Done (rifsc.read_of row x))))).next
@@ -68,55 +68,55 @@ module _ (s : State) (q : Request) (w : q.write ≡ false) {reg : Register} {row
       by true false = refl
       by false k = refl
 
-  pub controller-read : (a ≡ (registerStep Rifsc q s).answer) × (s ≡ (registerStep Rifsc q s).next)
+  pub controller-read : (a ≡ (register_step Rifsc q s).answer) × (s ≡ (register_step Rifsc q s).next)
   controller-read = rw read_step (refl, kept)
 
-module _ (s : State) (q : Request) {reg : Register} {row : Row} {v : Seen} {r : Accessed} (eg : reg ≡ registerAt q.offset)
+module _ (s : State) (q : Request) {reg : Register} {row : Row} {v : Seen} {r : Accessed} (eg : reg ≡ register_at q.offset)
     (er : row ≡ row_of reg) (ev : v ≡ seen s.rifsc reg row.lock row.index) (ea : r ≡ rifsc.accessed reg row v q) where
-  controller-is : registerStep Rifsc q s
-      ≡ settled r.answer rifscFlag s
-      (withRifsc s
-      (left r.answer s.rifsc (cond q.write (withStored s.rifsc reg (rifsc.wordWritten reg row v q.value q.secure)) s.rifsc) s.rifsc))
-  unfolding registerStep rifsc.stepped rifsc.written rifsc.accessed
+  controller-is : register_step Rifsc q s
+      ≡ settled r.answer rifsc_flag s
+      (with_rifsc s
+      (left r.answer s.rifsc (cond q.write (with_stored s.rifsc reg (rifsc.word_written reg row v q.value q.secure)) s.rifsc) s.rifsc))
+  unfolding register_step rifsc.stepped rifsc.written rifsc.accessed
   controller-is = rw (ea, ev, er, eg)
 
-  controller-answer : r.answer ≡ (registerStep Rifsc q s).answer
+  controller-answer : r.answer ≡ (register_step Rifsc q s).answer
   controller-answer = sym (ap (λ (o : Outcome). o.answer) controller-is)
 
   pub controller-written : {t : State} {x : ℕ} → r.answer ≡ Done x → q.write ≡ true
-      → t ≡ withRifsc s (withStored s.rifsc reg r.next.word)
-      → (r.answer ≡ (registerStep Rifsc q s).answer) × (t ≡ (registerStep Rifsc q s).next)
+      → t ≡ with_rifsc s (with_stored s.rifsc reg r.next.word)
+      → (r.answer ≡ (register_step Rifsc q s).answer) × (t ≡ (register_step Rifsc q s).next)
   unfolding rifsc.accessed
   controller-written d w e =
-      let n : r.next.word ≡ rifsc.wordWritten reg row v q.value q.secure = ap (λ (o : Accessed). o.next.word) ea ∙ rw (sym (ap (λ (o : Accessed). o.answer) ea) ∙ d, w) in
-      (controller-answer, rw controller-is (rw (d, w) (e ∙ ap (λ (k : ℕ). withRifsc s (withStored s.rifsc reg k)) n)))
+      let n : r.next.word ≡ rifsc.word_written reg row v q.value q.secure = ap (λ (o : Accessed). o.next.word) ea ∙ rw (sym (ap (λ (o : Accessed). o.answer) ea) ∙ d, w) in
+      (controller-answer, rw controller-is (rw (d, w) (e ∙ ap (λ (k : ℕ). with_rifsc s (with_stored s.rifsc reg k)) n)))
 
-  pub controller-refused : {t : State} {x : ℕ} → r.answer ≡ Refused x → t ≡ flagged rifscFlag s
-      → (r.answer ≡ (registerStep Rifsc q s).answer) × (t ≡ (registerStep Rifsc q s).next)
+  pub controller-refused : {t : State} {x : ℕ} → r.answer ≡ Refused x → t ≡ flagged rifsc_flag s
+      → (r.answer ≡ (register_step Rifsc q s).answer) × (t ≡ (register_step Rifsc q s).next)
   controller-refused d e = (controller-answer, rw controller-is (rw d e))
 
   pub controller-rejected : {w : Why} → r.answer ≡ Rejected w
-      → (r.answer ≡ (registerStep Rifsc q s).answer) × (s ≡ (registerStep Rifsc q s).next)
+      → (r.answer ≡ (register_step Rifsc q s).answer) × (s ≡ (register_step Rifsc q s).next)
   controller-rejected d = (controller-answer, rw controller-is (rw d refl))
 
 -- ---- the IAC, by what the code's calls give
 
 -- a read
 module _ (s : State) (q : Request) (w : q.write ≡ false) {reg : IacRegister} {row : IacRow} {v : ℕ} {a : Answer}
-    (eg : reg ≡ iac-registers.registerAt q.offset) (er : row ≡ iac-registers.row_of reg) (ev : v ≡ iac-contents.stored s.iac reg)
-    (ea : a ≡ iac.readAnswer row v q) where
+    (eg : reg ≡ iac-registers.register_at q.offset) (er : row ≡ iac-registers.row_of reg) (ev : v ≡ iac-contents.stored s.iac reg)
+    (ea : a ≡ iac.read_answer row v q) where
   abbrev flagging : Answer → Outcome
-  flagging b = settled b iacFlag s (withIac s (left b s.iac s.iac s.iac))
+  flagging b = settled b iac_flag s (with_iac s (left b s.iac s.iac s.iac))
 
-  flags-reading : registerStep Iac q s ≡ flagging a
-  unfolding registerStep iac.stepped iac.written
-  flags-reading = rw (ea, ev, er, eg) (rw (iac-laws.read_is (iac-registers.row_of (iac-registers.registerAt q.offset)) _ q w, w) refl)
+  flags-reading : register_step Iac q s ≡ flagging a
+  unfolding register_step iac.stepped iac.written
+  flags-reading = rw (ea, ev, er, eg) (rw (iac-laws.read_is (iac-registers.row_of (iac-registers.register_at q.offset)) _ q w, w) refl)
 
-  pub flags-read-refused : {t : State} {x : ℕ} → a ≡ Refused x → t ≡ flagged iacFlag s
-      → (a ≡ (registerStep Iac q s).answer) × (t ≡ (registerStep Iac q s).next)
+  pub flags-read-refused : {t : State} {x : ℕ} → a ≡ Refused x → t ≡ flagged iac_flag s
+      → (a ≡ (register_step Iac q s).answer) × (t ≡ (register_step Iac q s).next)
   flags-read-refused d e = rw flags-reading (refl, rw d e)
 
-  pub flags-read-kept : OneOf (0 ∷ 2 ∷ []) (tag_of the_type a) → (a ≡ (registerStep Iac q s).answer) × (s ≡ (registerStep Iac q s).next)
+  pub flags-read-kept : OneOf (0 ∷ 2 ∷ []) (tag_of the_type a) → (a ≡ (register_step Iac q s).answer) × (s ≡ (register_step Iac q s).next)
   flags-read-kept o = rw flags-reading (refl, by a o)
     where
       by : (b : Answer) → OneOf (0 ∷ 2 ∷ []) (tag_of the_type b) → s ≡ (flagging b).next
@@ -124,30 +124,30 @@ module _ (s : State) (q : Request) (w : q.write ≡ false) {reg : IacRegister} {
       by (Refused x) o = absurd (miss (0 ∷ 2 ∷ []) 1 tt o)
       by (Rejected y) o = refl
 
-module _ (s : State) (q : Request) {reg : IacRegister} {row : IacRow} {v : ℕ} {r : IacAccessed} (eg : reg ≡ iac-registers.registerAt q.offset)
+module _ (s : State) (q : Request) {reg : IacRegister} {row : IacRow} {v : ℕ} {r : IacAccessed} (eg : reg ≡ iac-registers.register_at q.offset)
     (er : row ≡ iac-registers.row_of reg) (ev : v ≡ iac-contents.stored s.iac reg) (ea : r ≡ iac.accessed reg row (record { word = v }) q) where
-  flags-is : registerStep Iac q s
-      ≡ settled r.answer iacFlag s
-      (withIac s
-      (left r.answer s.iac (cond q.write (held s.iac (iac-contents.withWord s.iac reg (iac.wordWritten reg v q.value))) s.iac) s.iac))
-  unfolding registerStep iac.stepped iac.written iac.accessed
+  flags-is : register_step Iac q s
+      ≡ settled r.answer iac_flag s
+      (with_iac s
+      (left r.answer s.iac (cond q.write (held s.iac (iac-contents.with_word s.iac reg (iac.word_written reg v q.value))) s.iac) s.iac))
+  unfolding register_step iac.stepped iac.written iac.accessed
   flags-is = rw (ea, ev, er, eg)
 
-  flags-answer : r.answer ≡ (registerStep Iac q s).answer
+  flags-answer : r.answer ≡ (register_step Iac q s).answer
   flags-answer = sym (ap (λ (o : Outcome). o.answer) flags-is)
 
   pub flags-written : {t : State} {x : ℕ} → r.answer ≡ Done x → q.write ≡ true
-      → t ≡ withIac s (held s.iac (iac-contents.withWord s.iac reg r.next.word))
-      → (r.answer ≡ (registerStep Iac q s).answer) × (t ≡ (registerStep Iac q s).next)
+      → t ≡ with_iac s (held s.iac (iac-contents.with_word s.iac reg r.next.word))
+      → (r.answer ≡ (register_step Iac q s).answer) × (t ≡ (register_step Iac q s).next)
   unfolding iac.accessed
   flags-written d w e =
-      let n : r.next.word ≡ iac.wordWritten reg v q.value = ap (λ (o : IacAccessed). o.next.word) ea ∙ rw (sym (ap (λ (o : IacAccessed). o.answer) ea) ∙ d, w) in
-      (flags-answer, rw flags-is (rw (d, w) (e ∙ ap (λ (k : ℕ). withIac s (held s.iac (iac-contents.withWord s.iac reg k))) n)))
+      let n : r.next.word ≡ iac.word_written reg v q.value = ap (λ (o : IacAccessed). o.next.word) ea ∙ rw (sym (ap (λ (o : IacAccessed). o.answer) ea) ∙ d, w) in
+      (flags-answer, rw flags-is (rw (d, w) (e ∙ ap (λ (k : ℕ). with_iac s (held s.iac (iac-contents.with_word s.iac reg k))) n)))
 
-  pub flags-refused : {t : State} {x : ℕ} → r.answer ≡ Refused x → t ≡ flagged iacFlag s
-      → (r.answer ≡ (registerStep Iac q s).answer) × (t ≡ (registerStep Iac q s).next)
+  pub flags-refused : {t : State} {x : ℕ} → r.answer ≡ Refused x → t ≡ flagged iac_flag s
+      → (r.answer ≡ (register_step Iac q s).answer) × (t ≡ (register_step Iac q s).next)
   flags-refused d e = (flags-answer, rw flags-is (rw d e))
 
   pub flags-rejected : {w : Why} → r.answer ≡ Rejected w
-      → (r.answer ≡ (registerStep Iac q s).answer) × (s ≡ (registerStep Iac q s).next)
+      → (r.answer ≡ (register_step Iac q s).answer) × (s ≡ (register_step Iac q s).next)
   flags-rejected d = (flags-answer, rw flags-is (rw d refl))

@@ -4,7 +4,7 @@ use mathlib.Core.Path.{◌≡◌, refl, sym}
 use Prim.Native.Nat.{ℕ}
 use Rattle.words.specs.Six.{bit_at}
 use Rattle.iac.specs.Registers.{iisrs}
-use Rattle.risaf.specs.Guards.{GuardRow, guards, shape_of, isGuard}
+use Rattle.risaf.specs.Guards.{GuardRow, guards, shape_of, is_guard}
 use Rattle.risaf.specs.declared.guards.Shape.{Shape}
 use Rattle.risaf.proofs.Shapes.{every, passed, by-guard}
 
@@ -15,7 +15,7 @@ all_named : every named guards ≡ true
 unfolding every named
 all_named = refl
 
-pub flag-named : (n : ℕ) → isGuard n ≡ true → bit_at iisrs (shape_of n).flag.0 ≡ true
+pub flag-named : (n : ℕ) → is_guard n ≡ true → bit_at iisrs (shape_of n).flag.0 ≡ true
 unfolding named
 flag-named n =
     by-guard (λ (s : Shape). s.there ≡ true → bit_at iisrs s.flag.0 ≡ true) n (λ e. absurd (true≢false (sym e)))

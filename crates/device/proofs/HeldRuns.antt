@@ -10,13 +10,13 @@ use Rattle.iac.specs.declared.contents.Iac.{Iac as IacWords}
 use Rattle.iac.proofs.HeldTrue.{held-true, held-moves, moves-refl, raise-by, written-by, reset-true}
 use Rattle.device.specs.Locks.{NotReset}
 use Rattle.device.specs.Run.{run}
-use Rattle.device.specs.State.{State, withGuard, resetState}
+use Rattle.device.specs.State.{State, with_guard, reset_state}
 use Rattle.device.specs.Step.{step}
 use Rattle.device.specs.declared.event.Block.{Block}
 use Rattle.device.specs.declared.event.Block.TheVariants.{Rifsc, Iac, Risaf}
 use Rattle.device.specs.declared.event.Event.{Event}
 use Rattle.device.specs.declared.event.Event.TheVariants.{Reset, Register, Peripheral, Memory, Master}
-use Rattle.device.proofs.Effects.{registerEffect, effect, registerRefused, refused, step_by}
+use Rattle.device.proofs.Effects.{register_effect, effect, register_refused, refused, step_by}
 
 -- ---- an event leaves the IAC as it was, or as it is held, or as reset makes it: P of all that it may leave is P of what it leaves
 
@@ -24,13 +24,13 @@ module _ (P : IacWords → Type 0) (s : State) (same : P s.iac) (kept : (t : Iac
   abbrev Of : State → Type 0
   Of t = P t.iac
 
-  register-effect : (b : Block) (q : Request) → Of (registerEffect b q s)
-  unfolding registerEffect withGuard
+  register-effect : (b : Block) (q : Request) → Of (register_effect b q s)
+  unfolding register_effect with_guard
   register-effect Rifsc q = same
-  register-effect Iac q = written-by P q s.iac (iac-registers.registerAt q.offset) same kept
+  register-effect Iac q = written-by P q s.iac (iac-registers.register_at q.offset) same kept
   register-effect (Risaf n) q = same
 
-  event-effect : (e : Event) → (e ≡ Reset → Of resetState) → Of (effect e s)
+  event-effect : (e : Event) → (e ≡ Reset → Of reset_state) → Of (effect e s)
   unfolding effect
   event-effect Reset reset = reset refl
   event-effect (Register a) reset = register-effect a.block a.request
@@ -38,21 +38,21 @@ module _ (P : IacWords → Type 0) (s : State) (same : P s.iac) (kept : (t : Iac
   event-effect (Memory a) reset = same
   event-effect (Master a) reset = same
 
-  register-refused : (b : Block) → Of (registerRefused b s)
-  unfolding registerRefused withGuard
+  register-refused : (b : Block) → Of (register_refused b s)
+  unfolding register_refused with_guard
   register-refused Rifsc = raise-by P _ s.iac same kept
   register-refused Iac = raise-by P _ s.iac same kept
   register-refused (Risaf n) = raise-by P _ s.iac same kept
 
   event-refused : (e : Event) → Of (refused e s)
-  unfolding refused withGuard
+  unfolding refused with_guard
   event-refused Reset = same
   event-refused (Register a) = register-refused a.block
   event-refused (Peripheral a) = raise-by P _ s.iac same kept
   event-refused (Memory a) = raise-by P _ s.iac same kept
   event-refused (Master a) = raise-by P _ s.iac same kept
 
-  event-by : (e : Event) → (e ≡ Reset → Of resetState) → Of (step e s).next
+  event-by : (e : Event) → (e ≡ Reset → Of reset_state) → Of (step e s).next
   event-by e reset = step_by Of e s same (λ v d. event-effect e reset) (λ v r. event-refused e)
 
 -- ---- one event
@@ -63,12 +63,12 @@ event-moves e s other = event-by (Moves s.iac) s (moves-refl s.iac) (held-moves 
 
 -- "reset sets both to 0"
 pub reset-zero : (s : State) → ((step Reset s).next.iac.line ≡ 0) × ((step Reset s).next.iac.count ≡ 0)
-unfolding step resetState iac.reset
+unfolding step reset_state iac.reset
 reset-zero s = (refl, refl)
 
 -- both stay true
 pub step-true : (e : Event) (s : State) → True s.iac → True (step e s).next.iac
-unfolding resetState
+unfolding reset_state
 step-true e s y = event-by True s y (λ t. held-true s.iac t y) e (λ r. reset-true)
 
 -- ---- any events
@@ -80,6 +80,6 @@ run-true [] s y = y
 run-true (e ∷ es) s y = run-true es (step e s).next (step-true e s y)
 
 -- and so from reset
-pub from-reset-true : (es : List Event) → True (run es resetState).iac
-unfolding resetState
-from-reset-true es = run-true es resetState reset-true
+pub from-reset-true : (es : List Event) → True (run es reset_state).iac
+unfolding reset_state
+from-reset-true es = run-true es reset_state reset-true

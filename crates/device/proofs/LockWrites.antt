@@ -12,7 +12,7 @@ use borrow.Author.Tests.{not-true}
 use Rattle.words.specs.Bit.{bit, word}
 use Rattle.words.proofs.Laws.{bit_word, bit-merged}
 use Rattle.access.specs.Answer.{number_of}
-use Rattle.access.specs.Checks.{unless, answered, answeredWith, reachedWith}
+use Rattle.access.specs.Checks.{unless, answered, answered_with, reached_with}
 use Rattle.access.specs.declared.answer.Answer.{Answer}
 use Rattle.access.specs.declared.answer.Answer.TheVariants.{Done, Refused, Rejected}
 use Rattle.access.specs.declared.answer.Why.TheVariants.{Locked, NoRegister, NoSuch, Misaligned, Outside, Fetch}
@@ -25,10 +25,10 @@ use Rattle.rifsc.specs.declared.contents.Rifsc.{Rifsc}
 use Rattle.rifsc.specs.declared.registers.Register.{Register as RifscRegister}
 use Rattle.rifsc.specs.declared.registers.Register.TheVariants as in-rifsc
 use Rattle.regions.specs.Words.{sub}
-use Rattle.risaf.specs.Contents.{crAt, headWords, guardWords, withWord}
+use Rattle.risaf.specs.Contents.{cr_at, head_words, guard_words, with_word}
 use Rattle.risaf.specs.Port as risaf
-use Rattle.risaf.specs.Port.{portIn, lockedOf, word_in, wordWritten}
-use Rattle.risaf.specs.Rows.{ofHead, ofBase, ofSub, row_of}
+use Rattle.risaf.specs.Port.{port_in, locked_of, word_in, word_written}
+use Rattle.risaf.specs.Rows.{of_head, of_base, of_sub, row_of}
 use Rattle.risaf.specs.declared.contents.Guard.{Guard}
 use Rattle.risaf.specs.declared.guards.Shape.{Shape}
 use Rattle.risaf.specs.declared.registers.Head.{Head}
@@ -40,7 +40,7 @@ use Rattle.risaf.specs.declared.registers.SubField.TheVariants.{SubCfgr, SubStar
 use Rattle.risaf.specs.declared.registers.Register.{Register as GuardRegister}
 use Rattle.risaf.specs.declared.registers.Register.TheVariants.{OfHead, OfBase, OfSub, Unknown}
 use Rattle.risaf.specs.declared.rows.Row.{Row}
-use Rattle.device.proofs.Effects.{guardWritten}
+use Rattle.device.proofs.Effects.{guard_written}
 
 -- ---- one bit
 
@@ -89,28 +89,28 @@ rifsc-still r = record { cr = λ h. h; rimccr = λ h. h; rcfglockr = λ x i l h.
 abbrev word_of : Rifsc → RifscRegister → ℕ → Bool → ℕ
 word_of r reg value secure =
     let row = rifsc-registers.row_of reg in
-    rifsc.wordWritten reg row (rifsc-contents.seen r reg row.lock row.index) value secure
+    rifsc.word_written reg row (rifsc-contents.seen r reg row.lock row.index) value secure
 
-abbrev takesOf : Rifsc → RifscRegister → ℕ → Bool → ℕ → Bool
-takesOf r reg value secure =
+abbrev takes_of : Rifsc → RifscRegister → ℕ → Bool → ℕ → Bool
+takes_of r reg value secure =
     let row = rifsc-registers.row_of reg in
     rifsc.takes reg row (rifsc-contents.seen r reg row.lock row.index) value secure
 
 -- a bit that a write takes only where it is 1
 taken-keeps : (r : Rifsc) (reg : RifscRegister) (value : ℕ) (secure : Bool) (i : ℕ) → i < 32
-    → (takesOf r reg value secure i ≡ true → bit value i ≡ true) → Keeps i (rifsc-contents.stored r reg) (word_of r reg value secure)
-unfolding rifsc.wordWritten rifsc-contents.seen
+    → (takes_of r reg value secure i ≡ true → bit value i ≡ true) → Keeps i (rifsc-contents.stored r reg) (word_of r reg value secure)
+unfolding rifsc.word_written rifsc-contents.seen
 taken-keeps r reg value secure i l takes h =
-    bit_word 32 (λ j. cond (takesOf r reg value secure j) (bit value j) (bit (rifsc-contents.stored r reg) j)) i l
-    ∙ cond-by (λ b. b ≡ true) (takesOf r reg value secure i) (bit value i) (bit (rifsc-contents.stored r reg) i) takes h
+    bit_word 32 (λ j. cond (takes_of r reg value secure j) (bit value j) (bit (rifsc-contents.stored r reg) j)) i l
+    ∙ cond-by (λ b. b ≡ true) (takes_of r reg value secure i) (bit value i) (bit (rifsc-contents.stored r reg) i) takes h
 
 and_right : (a b : Bool) → (a && b) ≡ true → b ≡ true
 and_right true b e = e
 and_right false b e = cc
 
 rifsc-stored : (r : Rifsc) (reg : RifscRegister) (value : ℕ) (secure : Bool)
-    → RifscHeld r (rifsc-contents.withStored r reg (word_of r reg value secure))
-unfolding rifsc-contents.withStored rifsc-contents.stored rifsc.takes
+    → RifscHeld r (rifsc-contents.with_stored r reg (word_of r reg value secure))
+unfolding rifsc-contents.with_stored rifsc-contents.stored rifsc.takes
 rifsc-stored r in-rifsc.Cr value secure =
     record { cr = taken-keeps r in-rifsc.Cr value secure 0 (lit< tt) (and_right (bit (rifsc-registers.row_of in-rifsc.Cr).named 0) (bit value 0)); rimccr = λ h. h; rcfglockr = λ x i l h. h }
 rifsc-stored r (in-rifsc.Seccfgr x) value secure = rifsc-still r
@@ -134,7 +134,7 @@ pub rifsc-written : (r : Rifsc) (reg : RifscRegister) (q : Request)
     → RifscHeld r (rifsc.written r reg (rifsc-registers.row_of reg) (rifsc-contents.seen r reg (rifsc-registers.row_of reg).lock (rifsc-registers.row_of reg).index) q)
 unfolding rifsc.written
 rifsc-written r reg q =
-    cond-by (RifscHeld r) q.write (rifsc-contents.withStored r reg (word_of r reg q.value q.secure)) r
+    cond-by (RifscHeld r) q.write (rifsc-contents.with_stored r reg (word_of r reg q.value q.secure)) r
     (λ w. rifsc-stored r reg q.value q.secure) (rifsc-still r)
 
 -- ---- a guard's locks: GLOCK, and RLOCK of each subregion
@@ -151,36 +151,36 @@ guard-still g = record { cr = λ h. h; regions = λ x p h. h }
 
 -- a word stored at a place keeps the lock bit that is there
 record PlaceHeld (w : List ℕ) (place v : ℕ) : Type 0 where
-  cr : place ≡ crAt → Keeps 0 (get_or w place 0) v
-  regions : (x p : ℕ) → place ≡ headWords + sub x p → Keeps 1 (get_or w place 0) v
+  cr : place ≡ cr_at → Keeps 0 (get_or w place 0) v
+  regions : (x p : ℕ) → place ≡ head_words + sub x p → Keeps 1 (get_or w place 0) v
 
-word-stored : (g : Guard) (place v : ℕ) → PlaceHeld (guardWords g) place v → GuardHeld g (withWord g place v)
-unfolding withWord
+word-stored : (g : Guard) (place v : ℕ) → PlaceHeld (guard_words g) place v → GuardHeld g (with_word g place v)
+unfolding with_word
 word-stored g place v held =
-    let w = guardWords g in
+    let w = guard_words g in
     record {
-      cr = stored-keeps w place crAt v 0 held.cr;
+      cr = stored-keeps w place cr_at v 0 held.cr;
       regions =
           λ x p h.
-          ap (λ (u : ℕ). bit u 1) (get_or-drop headWords (set w place v) (sub x p) 0)
-          ∙ stored-keeps w place (headWords + sub x p) v 1 (held.regions x p)
-          (sym (ap (λ (u : ℕ). bit u 1) (get_or-drop headWords w (sub x p) 0)) ∙ h);
+          ap (λ (u : ℕ). bit u 1) (get_or-drop head_words (set w place v) (sub x p) 0)
+          ∙ stored-keeps w place (head_words + sub x p) v 1 (held.regions x p)
+          (sym (ap (λ (u : ℕ). bit u 1) (get_or-drop head_words w (sub x p) 0)) ∙ h);
     }
 
 -- where there is none
-lockless : {w : List ℕ} {place v : ℕ} → (place ≡ crAt → ⊥) → ((x p : ℕ) → place ≡ headWords + sub x p → ⊥) → PlaceHeld w place v
+lockless : {w : List ℕ} {place v : ℕ} → (place ≡ cr_at → ⊥) → ((x p : ℕ) → place ≡ head_words + sub x p → ⊥) → PlaceHeld w place v
 lockless head region = record { cr = λ e. absurd (head e); regions = λ x p e. absurd (region x p e) }
 
 -- a write that no lock stops
 module _ (granule : ℕ) (w : List ℕ) (value : ℕ) (secure : Bool) where
   abbrev RowHeld : Row → Type 0
-  RowHeld row = lockedOf row.lock (portIn w row) ≡ false → PlaceHeld w row.place (wordWritten granule row (portIn w row) value secure)
+  RowHeld row = locked_of row.lock (port_in w row) ≡ false → PlaceHeld w row.place (word_written granule row (port_in w row) value secure)
 
-  head-held : (head : Head) → RowHeld (ofHead head)
-  unfolding ofHead word_in portIn
+  head-held : (head : Head) → RowHeld (of_head head)
+  unfolding of_head word_in port_in
   head-held Cr free =
       record {
-        cr = λ e. raised_keeps (get_or w crAt 0) value (ofHead Cr).named 0 (lit< tt);
+        cr = λ e. raised_keeps (get_or w cr_at 0) value (of_head Cr).named 0 (lit< tt);
         regions = λ x p e. absurd (omega arith);
       }
   head-held Iasr free = lockless (λ e. omega arith) (λ x p e. omega arith)
@@ -189,8 +189,8 @@ module _ (granule : ℕ) (w : List ℕ) (value : ℕ) (secure : Bool) where
   head-held Iaddr free = lockless (λ e. omega arith) (λ x p e. omega arith)
 
   -- bit 1 is no named one of a base region's CFGR
-  base-held : (x : ℕ) (field : BaseField) → RowHeld (ofBase x field)
-  unfolding ofBase word_in portIn
+  base-held : (x : ℕ) (field : BaseField) → RowHeld (of_base x field)
+  unfolding of_base word_in port_in
   base-held x Cfgr free =
       record { cr = λ e. absurd (omega arith); regions = λ y p e h. bit-merged 32 _ value _ 1 (lit< tt) ∙ h }
   base-held x Start free = lockless (λ e. omega arith) (λ y p e. omega arith)
@@ -198,8 +198,8 @@ module _ (granule : ℕ) (w : List ℕ) (value : ℕ) (secure : Bool) where
   base-held x Cidcfgr free = lockless (λ e. omega arith) (λ y p e. omega arith)
 
   -- bit 1 is the RLOCK that stops the write
-  sub_held : (x s : ℕ) (field : SubField) → RowHeld (ofSub x s field)
-  unfolding ofSub portIn
+  sub_held : (x s : ℕ) (field : SubField) → RowHeld (of_sub x s field)
+  unfolding of_sub port_in
   sub_held x s SubCfgr free =
       record { cr = λ e. absurd (omega arith); regions = λ y p e h. absurd (true≢false (sym (rw add-zero at h) ∙ free)) }
   sub_held x s SubStart free = lockless (λ e. omega arith) (λ y p e. omega arith)
@@ -207,7 +207,7 @@ module _ (granule : ℕ) (w : List ℕ) (value : ℕ) (secure : Bool) where
   sub_held x s Nest free = lockless (λ e. omega arith) (λ y p e. omega arith)
 
   row-held : (reg : GuardRegister) → RowHeld (row_of reg)
-  unfolding row_of word_in portIn
+  unfolding row_of word_in port_in
   row-held (OfHead head) = head-held head
   row-held (OfBase x field) = base-held x field
   row-held (OfSub x s field) = sub_held x s field
@@ -224,7 +224,7 @@ free-last true value v e = refl
 free-last false value v e = absurd (omega (arith, ap number_of e))
 
 done-free : (c : Checks) (value v : ℕ) → answered c value ≡ Done v → c.unlocked ≡ true
-unfolding answeredWith reachedWith
+unfolding answered_with reached_with
 done-free c value v e =
     free-last c.unlocked value v
     (passed c.direction (Rejected NoRegister) _ v (lit≤ tt)
@@ -236,16 +236,16 @@ done-free c value v e =
     (passed c.present (Rejected NoSuch) _ v (lit≤ tt) e)))))))
 
 pub guard-written : (shape : Shape) (g : Guard) (reg : GuardRegister) (q : Request) (v : ℕ)
-    → risaf.answer_of shape (row_of reg) (portIn (guardWords g) (row_of reg)) q ≡ Done v
-    → GuardHeld g (guardWritten shape.granule (row_of reg) q g)
-unfolding risaf.answer_of risaf.checksOf
+    → risaf.answer_of shape (row_of reg) (port_in (guard_words g) (row_of reg)) q ≡ Done v
+    → GuardHeld g (guard_written shape.granule (row_of reg) q g)
+unfolding risaf.answer_of risaf.checks_of
 guard-written shape g reg q v e =
     let row = row_of reg in
-    let p = portIn (guardWords g) row in
-    let locked = lockedOf row.lock p in
-    let free = done-free (risaf.checksOf shape row p q) _ v e in
+    let p = port_in (guard_words g) row in
+    let locked = locked_of row.lock p in
+    let free = done-free (risaf.checks_of shape row p q) _ v e in
     cond-by (GuardHeld g) q.write _ g
     (λ w.
     rw w (word-stored g row.place _
-    (row-held shape.granule (guardWords g) q.value q.secure reg (not-true locked (sym (ap (λ (b : Bool). not b || not locked) w) ∙ free)))))
+    (row-held shape.granule (guard_words g) q.value q.secure reg (not-true locked (sym (ap (λ (b : Bool). not b || not locked) w) ∙ free)))))
     (guard-still g)

@@ -12,25 +12,25 @@ use Rattle.words.specs.Bit.{bit}
 use Rattle.words.proofs.Laws.{bit_high, bit-zero}
 use Rattle.access.specs.declared.answer.Answer.TheVariants.{Done}
 use Rattle.access.specs.declared.request.Request.{Request}
-use Rattle.regions.specs.Words.{subregionWords, regionWords, mostRegions, sub}
+use Rattle.regions.specs.Words.{subregion_words, region_words, most_regions, sub}
 use Rattle.rifsc.specs.Contents as rifsc-contents
 use Rattle.rifsc.specs.Registers.{ppsr}
 use Rattle.risaf.specs.Contents as risaf-contents
-use Rattle.risaf.specs.Contents.{guardFrom, regionReset, regionsReset}
+use Rattle.risaf.specs.Contents.{guard_from, region_reset, regions_reset}
 use Rattle.risaf.specs.Guards.{GuardRow, guards, shape_of}
 use Rattle.risaf.specs.Port as risaf
-use Rattle.risaf.specs.Registers.{registerAt}
+use Rattle.risaf.specs.Registers.{register_at}
 use Rattle.risaf.specs.declared.contents.Guard.{Guard}
-use Rattle.device.specs.Locks.{Lock, glock, rimcLock, rlock, guardLock, subLock, Named, is_set, NotReset, NoReset, Settings, guardSettings, settings}
+use Rattle.device.specs.Locks.{Lock, glock, rimc_lock, rlock, guard_lock, sub_lock, Named, is_set, NotReset, NoReset, Settings, guard_settings, settings}
 use Rattle.device.specs.Run.{run}
-use Rattle.device.specs.State.{State, guard_of, withGuard, resetState}
-use Rattle.device.specs.Step.{registerStep, step}
+use Rattle.device.specs.State.{State, guard_of, with_guard, reset_state}
+use Rattle.device.specs.Step.{register_step, step}
 use Rattle.device.specs.declared.event.Block.{Block}
 use Rattle.device.specs.declared.event.Block.TheVariants.{Rifsc, Iac, Risaf}
 use Rattle.device.specs.declared.event.Event.{Event}
 use Rattle.device.specs.declared.event.Event.TheVariants.{Reset, Register, Peripheral, Memory, Master}
 use Rattle.device.proofs.LockWrites.{stored-by, RifscHeld, rifsc-still, rifsc-written, GuardHeld, guard-still, guard-written}
-use Rattle.device.proofs.Effects.{registerEffect, effect, refused, step_by}
+use Rattle.device.proofs.Effects.{register_effect, effect, refused, step_by}
 use Rattle.device.proofs.Refusals.{refused-kept}
 
 -- ---- the locks of a state that hold in another
@@ -41,26 +41,26 @@ Held s t = record { rifsc : RifscHeld s.rifsc t.rifsc; guards : (n : ℕ) → Gu
 still : (s : State) → Held s s
 still s = record { rifsc = rifsc-still s.rifsc; guards = λ n. guard-still (guard_of s n) }
 
-held-guard : (s : State) (n : ℕ) (g : Guard) → GuardHeld (guard_of s n) g → Held s (withGuard s n g)
-unfolding guard_of withGuard
+held-guard : (s : State) (n : ℕ) (g : Guard) → GuardHeld (guard_of s n) g → Held s (with_guard s n g)
+unfolding guard_of with_guard
 held-guard s n g held =
     record {
       rifsc = rifsc-still s.rifsc;
       guards =
           λ m.
-          stored-by (GuardHeld (guard_of s m)) s.guards (shape_of n).place (shape_of m).place g (guardFrom [])
-          (guard-still (guard_of s m)) (λ e. subst (λ p. GuardHeld (get_or s.guards p (guardFrom [])) g) e held);
+          stored-by (GuardHeld (guard_of s m)) s.guards (shape_of n).place (shape_of m).place g (guard_from [])
+          (guard-still (guard_of s m)) (λ e. subst (λ p. GuardHeld (get_or s.guards p (guard_from [])) g) e held);
     }
 
 -- ---- where an event is refused: flags and fault registers hold no lock
 
-settings-guard : (s t : State) (n : ℕ) → settings t ≡ settings s → guardSettings (guard_of t n) ≡ guardSettings (guard_of s n)
+settings-guard : (s t : State) (n : ℕ) → settings t ≡ settings s → guard_settings (guard_of t n) ≡ guard_settings (guard_of s n)
 unfolding settings guard_of
 settings-guard s t n e =
     let place = (shape_of n).place in
-    sym (get_or-map guardSettings t.guards place (guardFrom []))
-    ∙ ap (λ (x : Settings). get_or x.guards place (guardSettings (guardFrom []))) e
-    ∙ get_or-map guardSettings s.guards place (guardFrom [])
+    sym (get_or-map guard_settings t.guards place (guard_from []))
+    ∙ ap (λ (x : Settings). get_or x.guards place (guard_settings (guard_from []))) e
+    ∙ get_or-map guard_settings s.guards place (guard_from [])
 
 held-settings : (s t : State) → settings t ≡ settings s → Held s t
 unfolding settings
@@ -78,13 +78,13 @@ held-settings s t e =
 
 -- ---- where it is done
 
-held-register : (b : Block) (q : Request) (s : State) (v : ℕ) → (registerStep b q s).answer ≡ Done v → Held s (registerEffect b q s)
-unfolding registerStep registerEffect guard_of risaf.stepped risaf.accessed
+held-register : (b : Block) (q : Request) (s : State) (v : ℕ) → (register_step b q s).answer ≡ Done v → Held s (register_effect b q s)
+unfolding register_step register_effect guard_of risaf.stepped risaf.accessed
 held-register Rifsc q s v d = record { rifsc = rifsc-written s.rifsc _ q; guards = λ n. guard-still (guard_of s n) }
 held-register Iac q s v d = still s
 held-register (Risaf n) q s v d =
     let shape = shape_of n.0 in
-    held-guard s n.0 _ (guard-written shape (guard_of s n.0) (registerAt shape.regions q.offset) q v d)
+    held-guard s n.0 _ (guard-written shape (guard_of s n.0) (register_at shape.regions q.offset) q v d)
 
 held-effect : (e : Event) (s : State) (v : ℕ) → NotReset e → (step e s).answer ≡ Done v → Held s (effect e s)
 unfolding effect step
@@ -120,10 +120,10 @@ named-low x i h = by (dec_lt i 32)
 held-set : (l : Lock) (s t : State) → Named l → Held s t → is_set l s ≡ true → is_set l t ≡ true
 unfolding is_set
 held-set glock s t named held = held.rifsc.cr
-held-set rimcLock s t named held = held.rifsc.rimccr
+held-set rimc_lock s t named held = held.rifsc.rimccr
 held-set (rlock x i) s t named held = held.rifsc.rcfglockr x i (named-low x i named)
-held-set (guardLock n) s t named held = (held.guards n).cr
-held-set (subLock n x p) s t named held = (held.guards n).regions x p
+held-set (guard_lock n) s t named held = (held.guards n).cr
+held-set (sub_lock n x p) s t named held = (held.guards n).regions x p
 
 -- ---- a lock that is set stays set, whatever the event, unless it is reset
 
@@ -150,29 +150,29 @@ made P f [] i d p q = q
 made P f (a ∷ l) zero d p q = p a
 made P f (a ∷ l) (suc i) d p q = made P f l i d p q
 
--- every subregionWords-th word of the regions is a CFGR or lies past the end
-cfgr-reset : (granule n k : ℕ) → get_or (regionsReset granule n) (subregionWords * k) 0 ≡ 0
+-- every subregion_words-th word of the regions is a CFGR or lies past the end
+cfgr-reset : (granule n k : ℕ) → get_or (regions_reset granule n) (subregion_words * k) 0 ≡ 0
 cfgr-reset granule zero k = refl
 cfgr-reset granule (suc n) zero = refl
 cfgr-reset granule (suc n) (suc zero) = refl
 cfgr-reset granule (suc n) (suc (suc zero)) = refl
 cfgr-reset granule (suc n) (suc (suc (suc k))) =
-    let e : subregionWords * suc (suc (suc k)) ≡ regionWords + subregionWords * k = omega arith in
-    rw e (get_or-append-add (regionReset granule) (regionsReset granule n) (subregionWords * k) 0 ∙ cfgr-reset granule n k)
+    let e : subregion_words * suc (suc (suc k)) ≡ region_words + subregion_words * k = omega arith in
+    rw e (get_or-append-add (region_reset granule) (regions_reset granule n) (subregion_words * k) 0 ∙ cfgr-reset granule n k)
 
-abbrev guardReset : GuardRow → Guard
-guardReset row = risaf-contents.reset row.granule
+abbrev guard_reset : GuardRow → Guard
+guard_reset row = risaf-contents.reset row.granule
 
 pub reset-clears : (l : Lock) (s : State) → is_set l (step Reset s).next ≡ false
-unfolding is_set step resetState guard_of rifsc-contents.reset risaf-contents.reset
+unfolding is_set step reset_state guard_of rifsc-contents.reset risaf-contents.reset
 reset-clears glock s = refl
-reset-clears rimcLock s = refl
+reset-clears rimc_lock s = refl
 reset-clears (rlock x i) s = replicated (λ w. bit w i ≡ false) (length (rifsc-contents.reset).rcfglockr) x 0 0 (bit-zero i) (bit-zero i)
-reset-clears (guardLock n) s = made (λ (g : Guard). bit g.cr 0 ≡ false) guardReset guards (shape_of n).place (guardFrom []) (λ row. refl) refl
-reset-clears (subLock n x p) s =
-    let e : sub x p ≡ subregionWords * (3 * x + 1 + p) = omega arith in
-    made (λ (g : Guard). bit (get_or g.regions (sub x p) 0) 1 ≡ false) guardReset guards (shape_of n).place (guardFrom [])
+reset-clears (guard_lock n) s = made (λ (g : Guard). bit g.cr 0 ≡ false) guard_reset guards (shape_of n).place (guard_from []) (λ row. refl) refl
+reset-clears (sub_lock n x p) s =
+    let e : sub x p ≡ subregion_words * (3 * x + 1 + p) = omega arith in
+    made (λ (g : Guard). bit (get_or g.regions (sub x p) 0) 1 ≡ false) guard_reset guards (shape_of n).place (guard_from [])
     (λ row.
     ap (λ (w : ℕ). bit w 1)
-    (ap (λ (k : ℕ). get_or (regionsReset row.granule mostRegions) k 0) e ∙ cfgr-reset row.granule mostRegions (3 * x + 1 + p)))
+    (ap (λ (k : ℕ). get_or (regions_reset row.granule most_regions) k 0) e ∙ cfgr-reset row.granule most_regions (3 * x + 1 + p)))
     refl

@@ -4,34 +4,34 @@ use mathlib.Core.List.{List}
 use mathlib.Core.Path.{◌≡◌, refl}
 use Prim.Native.Nat.{ℕ}
 use lib.ListN.{length}
-use Rattle.access.specs.Checks.{answeredWith}
+use Rattle.access.specs.Checks.{answered_with}
 use Rattle.access.specs.declared.answer.Answer.TheVariants.{Rejected}
 use Rattle.access.specs.declared.answer.Why.TheVariants.{NoSuch}
-use Rattle.rifsc.specs.Masters.{isMaster}
-use Rattle.risaf.specs.Memory.{memoryAnswer, memoryChecks, memoryStepped}
-use Rattle.device.specs.Applied.{appliedAnswer, appliedState}
-use Rattle.device.specs.Layout.{state_of, stateWords}
-use Rattle.device.specs.Masters.{madeAs, carriedBy}
-use Rattle.device.specs.Step.{step, memoryStep}
+use Rattle.rifsc.specs.Masters.{is_master}
+use Rattle.risaf.specs.Memory.{memory_answer, memory_checks, memory_stepped}
+use Rattle.device.specs.Applied.{applied_answer, applied_state}
+use Rattle.device.specs.Layout.{state_of, state_words}
+use Rattle.device.specs.Masters.{made_as, carried_by}
+use Rattle.device.specs.Step.{step, memory_step}
 use Rattle.device.specs.declared.event.Event.TheVariants.{Master}
 use Rattle.device.specs.declared.event.MasterAccess.{MasterAccess}
 use Rattle.device.proofs.Applies.{own-length}
 
 module _ (a : MasterAccess) (m : List ℕ) where
-  pub no-master : length m ≡ stateWords → isMaster a.master ≡ false
-      → (Rejected NoSuch ≡ appliedAnswer (Master a) m) × (m ≡ appliedState (Master a) m)
-  unfolding step memoryStep memoryStepped memoryAnswer memoryChecks answeredWith
+  pub no-master : length m ≡ state_words → is_master a.master ≡ false
+      → (Rejected NoSuch ≡ applied_answer (Master a) m) × (m ≡ applied_state (Master a) m)
+  unfolding step memory_step memory_stepped memory_answer memory_checks answered_with
   no-master h e = own-length (Master a) m h refl (rw e refl) (rw e refl)
 
-  module _ (e : isMaster a.master ≡ true) where
-    as-memory : step (Master a) (state_of m) ≡ step (madeAs a (carriedBy a (state_of m))) (state_of m)
+  module _ (e : is_master a.master ≡ true) where
+    as-memory : step (Master a) (state_of m) ≡ step (made_as a (carried_by a (state_of m))) (state_of m)
     unfolding step
     as-memory = rw e refl
 
-    pub master-answer : appliedAnswer (madeAs a (carriedBy a (state_of m))) m ≡ appliedAnswer (Master a) m
-    unfolding appliedAnswer
+    pub master-answer : applied_answer (made_as a (carried_by a (state_of m))) m ≡ applied_answer (Master a) m
+    unfolding applied_answer
     master-answer = rw as-memory refl
 
-    pub master-state : appliedState (madeAs a (carriedBy a (state_of m))) m ≡ appliedState (Master a) m
-    unfolding appliedState
+    pub master-state : applied_state (made_as a (carried_by a (state_of m))) m ≡ applied_state (Master a) m
+    unfolding applied_state
     master-state = rw as-memory refl

@@ -10,10 +10,10 @@ use lib.Dec.{ltb, lit≤, lit<}
 use lib.ListN.{length, get_or, replicate, get_or-eq_default, get_or-append}
 use lib.Seq.{get_or-append-add, get_or-drop}
 use Rattle.words.specs.Bit.{bit}
-use Rattle.words.specs.Six.{bitWords}
+use Rattle.words.specs.Six.{bit_words}
 use Rattle.words.proofs.Laws.{bit-zero}
 use Rattle.words.proofs.Alike.{Within, within-zero}
-use Rattle.regions.specs.Words.{mostRegions, baseWords, subregionWords, regionWords, start_at, end_at, cidcfgrAt, nestAt, base, sub}
+use Rattle.regions.specs.Words.{most_regions, base_words, subregion_words, region_words, start_at, end_at, cidcfgr_at, nest_at, base, sub}
 use Rattle.rifsc.specs.Contents as rifsc-contents
 use Rattle.rifsc.specs.Masters.{masters}
 use Rattle.rifsc.specs.Registers as rifsc
@@ -26,9 +26,9 @@ use Rattle.iac.specs.Registers.{iisr, iisrs}
 use Rattle.iac.specs.declared.registers.Register.{Register as IacRegister}
 use Rattle.iac.specs.declared.registers.Register.TheVariants as in-iac
 use Rattle.iac.proofs.NamedWords as iac-named
-use Rattle.risaf.specs.Contents.{headWords, iaesrAt, guardSize, guardWords, guardFrom}
+use Rattle.risaf.specs.Contents.{head_words, iaesr_at, guard_size, guard_words, guard_from}
 use Rattle.risaf.specs.Guards.{GuardRow, guards, shape_of}
-use Rattle.risaf.specs.Rows.{ofHead, ofBase, ofSub, row_of}
+use Rattle.risaf.specs.Rows.{of_head, of_base, of_sub, row_of}
 use Rattle.risaf.specs.declared.guards.Shape.{Shape}
 use Rattle.risaf.specs.declared.registers.Head.TheVariants.{Cr, Iasr, Iacr, Iaesr, Iaddr}
 use Rattle.risaf.specs.declared.registers.BaseField.TheVariants.{Cfgr, Start, End, Cidcfgr}
@@ -36,59 +36,59 @@ use Rattle.risaf.specs.declared.registers.SubField.TheVariants.{SubCfgr, SubStar
 use Rattle.risaf.specs.declared.registers.Register.TheVariants.{OfHead, OfBase, OfSub, Unknown}
 use Rattle.risaf.proofs.NamedWords as risaf-named
 use Rattle.risaf.proofs.Shapes.{no_row, by-guard, regions-most}
-use Rattle.device.specs.Layout.{place_in, headSizes, guardsAt, stateWords, rimccrPart, attrPart, isrPart, linePart, countPart, joined, layout, parts_of, state_of}
-use Rattle.device.specs.Named.{firsts, namedSub, namedRegion, namedGuard, namedState, named_of}
-use Rattle.device.specs.State.{guardAt}
+use Rattle.device.specs.Layout.{place_in, head_sizes, guards_at, state_words, rimccr_part, attr_part, isr_part, line_part, count_part, joined, layout, parts_of, state_of}
+use Rattle.device.specs.Named.{firsts, named_sub, named_region, named_guard, named_state, named_of}
+use Rattle.device.specs.State.{guard_at}
 
 -- ---- computed
 
-attr-0 : named_of (place_in headSizes attrPart) ≡ 0x0000_0370
-unfolding namedSub namedRegion namedGuard namedState named_of layout joined rifsc.row_of
+attr-0 : named_of (place_in head_sizes attr_part) ≡ 0x0000_0370
+unfolding named_sub named_region named_guard named_state named_of layout joined rifsc.row_of
 attr-0 = refl
 
 -- of RIMC_CR the bit that reads 1 whatever is stored is not named
-rimc-cr : named_of (place_in headSizes rimccrPart) ≡ 0x0000_0701
-unfolding namedSub namedRegion namedGuard namedState named_of layout joined rifsc.row_of
+rimc-cr : named_of (place_in head_sizes rimccr_part) ≡ 0x0000_0701
+unfolding named_sub named_region named_guard named_state named_of layout joined rifsc.row_of
 rimc-cr = refl
 
-isr-4 : named_of (place_in headSizes isrPart + 4) ≡ 0x7bef_ffef
-unfolding namedSub namedRegion namedGuard namedState named_of layout joined iac.row_of iisr
+isr-4 : named_of (place_in head_sizes isr_part + 4) ≡ 0x7bef_ffef
+unfolding named_sub named_region named_guard named_state named_of layout joined iac.row_of iisr
 isr-4 = refl
 
 -- the line and the count
-line-0 : named_of (place_in headSizes linePart) ≡ 0x0000_0001
-unfolding namedSub namedRegion namedGuard namedState named_of layout joined
+line-0 : named_of (place_in head_sizes line_part) ≡ 0x0000_0001
+unfolding named_sub named_region named_guard named_state named_of layout joined
 line-0 = refl
 
-count-7-0 : named_of (place_in headSizes countPart) ≡ 0x0000_00ff
-unfolding namedSub namedRegion namedGuard namedState named_of layout joined
+count-7-0 : named_of (place_in head_sizes count_part) ≡ 0x0000_00ff
+unfolding named_sub named_region named_guard named_state named_of layout joined
 count-7-0 = refl
 
-iaesr-1 : named_of (guardsAt + iaesrAt) ≡ 0x0000_00b7
-unfolding namedSub namedRegion namedGuard namedState named_of layout joined ofHead
+iaesr-1 : named_of (guards_at + iaesr_at) ≡ 0x0000_00b7
+unfolding named_sub named_region named_guard named_state named_of layout joined of_head
 iaesr-1 = refl
 
 -- CFGR of the last base region of guard 1, and of the next, which it has not; guard 4, the fourth, has eleven
-cfgr-1-7 : named_of (guardsAt + headWords + base 6) ≡ 0x00ff_0101
-unfolding namedSub namedRegion namedGuard namedState named_of layout joined ofBase
+cfgr-1-7 : named_of (guards_at + head_words + base 6) ≡ 0x00ff_0101
+unfolding named_sub named_region named_guard named_state named_of layout joined of_base
 cfgr-1-7 = refl
 
-cfgr-1-8 : named_of (guardsAt + headWords + base 7) ≡ 0
-unfolding namedSub namedRegion namedGuard namedState named_of layout joined
+cfgr-1-8 : named_of (guards_at + head_words + base 7) ≡ 0
+unfolding named_sub named_region named_guard named_state named_of layout joined
 cfgr-1-8 = refl
 
-cfgr-4-8 : named_of (guardsAt + 3 * guardSize + headWords + base 7) ≡ 0x00ff_0101
-unfolding namedSub namedRegion namedGuard namedState named_of layout joined ofBase
+cfgr-4-8 : named_of (guards_at + 3 * guard_size + head_words + base 7) ≡ 0x00ff_0101
+unfolding named_sub named_region named_guard named_state named_of layout joined of_base
 cfgr-4-8 = refl
 
 -- ---- in memory
 
-pub named-length : length (layout namedState) ≡ stateWords
-unfolding namedSub namedRegion namedGuard namedState layout joined
+pub named-length : length (layout named_state) ≡ state_words
+unfolding named_sub named_region named_guard named_state layout joined
 named-length = refl
 
-pub named-parts : state_of (layout namedState) ≡ namedState
-unfolding namedSub namedRegion namedGuard namedState layout joined state_of parts_of
+pub named-parts : state_of (layout named_state) ≡ named_state
+unfolding named_sub named_region named_guard named_state layout joined state_of parts_of
 named-parts = refl
 
 -- ---- the first of some masks
@@ -111,16 +111,16 @@ within-firsts n x f past = go (dec_lt x n)
 
 -- ---- the controller and the IAC
 
-ppsr-within : (x : ℕ) → Within (ppsr x) (get_or (firsts bitWords ppsr) x 0)
+ppsr-within : (x : ℕ) → Within (ppsr x) (get_or (firsts bit_words ppsr) x 0)
 unfolding ppsr
-ppsr-within x = within-firsts bitWords x ppsr (λ h. get_or-eq_default ppsrs 0 h)
+ppsr-within x = within-firsts bit_words x ppsr (λ h. get_or-eq_default ppsrs 0 h)
 
-iisr-within : (x : ℕ) → Within (iisr x) (get_or (firsts bitWords iisr) x 0)
+iisr-within : (x : ℕ) → Within (iisr x) (get_or (firsts bit_words iisr) x 0)
 unfolding iisr
-iisr-within x = within-firsts bitWords x iisr (λ h. get_or-eq_default iisrs 0 h)
+iisr-within x = within-firsts bit_words x iisr (λ h. get_or-eq_default iisrs 0 h)
 
-pub rifsc-has : rifsc-named.Has namedState.rifsc
-unfolding namedState rifsc-contents.stored rifsc.row_of
+pub rifsc-has : rifsc-named.Has named_state.rifsc
+unfolding named_state rifsc-contents.stored rifsc.row_of
 rifsc-has in-rifsc.Cr placed = λ j l h. h
 rifsc-has (in-rifsc.Seccfgr x) placed = ppsr-within x
 rifsc-has (in-rifsc.Privcfgr x) placed = ppsr-within x
@@ -130,16 +130,16 @@ rifsc-has (in-rifsc.Attr m) placed = within-is _ _ (firsts_at masters m (λ i. (
 rifsc-has (in-rifsc.Ppsr x) placed = λ j l h. h
 rifsc-has in-rifsc.Unknown placed = λ j l h. h
 
-iac-words : (reg : IacRegister) → Within (iac.row_of reg).named (iac-contents.stored namedState.iac reg)
-unfolding namedState iac-contents.stored iac.row_of
+iac-words : (reg : IacRegister) → Within (iac.row_of reg).named (iac-contents.stored named_state.iac reg)
+unfolding named_state iac-contents.stored iac.row_of
 iac-words (in-iac.Ier x) = iisr-within x
 iac-words (in-iac.Isr x) = iisr-within x
 iac-words (in-iac.Icr x) = iisr-within x
 iac-words (in-iac.Iisr x) = λ j l h. h
 iac-words in-iac.Unknown = λ j l h. h
 
-pub iac-has : iac-named.Has namedState.iac
-unfolding namedState
+pub iac-has : iac-named.Has named_state.iac
+unfolding named_state
 iac-has = record { words = iac-words; line = λ j l h. h; count = λ j l h. h }
 
 -- ---- a guard
@@ -157,46 +157,46 @@ block_at (suc c) size f sized (suc x) i h l =
     rw e (get_or-append-add (f 0) _ (size * x + i) 0 ∙ block_at c size (λ j. f (suc j)) (λ j. sized (suc j)) x i (omega arith) l)
 
 -- word i of subregion s of base region x
-sub_at : (x s i : ℕ) → s < 2 → i < subregionWords → get_or (namedRegion x) (baseWords + (subregionWords * s + i)) 0 ≡ get_or (namedSub x s) i 0
-unfolding namedRegion namedSub
+sub_at : (x s i : ℕ) → s < 2 → i < subregion_words → get_or (named_region x) (base_words + (subregion_words * s + i)) 0 ≡ get_or (named_sub x s) i 0
+unfolding named_region named_sub
 sub_at x s i l k =
-    get_or-append-add ((ofBase x Cfgr).named ∷ (ofBase x Start).named ∷ (ofBase x End).named ∷ (ofBase x Cidcfgr).named ∷ [])
-    (joined (firsts 2 (namedSub x))) (subregionWords * s + i) 0
-    ∙ block_at 2 subregionWords (namedSub x) (λ j. refl) s i l k
+    get_or-append-add ((of_base x Cfgr).named ∷ (of_base x Start).named ∷ (of_base x End).named ∷ (of_base x Cidcfgr).named ∷ [])
+    (joined (firsts 2 (named_sub x))) (subregion_words * s + i) 0
+    ∙ block_at 2 subregion_words (named_sub x) (λ j. refl) s i l k
 
 module _ (n : ℕ) where
   abbrev region : ℕ → List ℕ
-  region x = cond (ltb x n) (namedRegion x) (replicate regionWords 0)
+  region x = cond (ltb x n) (named_region x) (replicate region_words 0)
 
-  region-size : (x : ℕ) → length (region x) ≡ regionWords
-  unfolding namedRegion namedSub joined
+  region-size : (x : ℕ) → length (region x) ≡ region_words
+  unfolding named_region named_sub joined
   region-size x = go (ltb x n)
     where
-      go : (b : Bool) → length (cond b (namedRegion x) (replicate regionWords 0)) ≡ regionWords
+      go : (b : Bool) → length (cond b (named_region x) (replicate region_words 0)) ≡ region_words
       go true = refl
       go false = refl
 
   -- word i of base region x, which the guard has
-  region-at : (x i : ℕ) → x < n → n ≤ mostRegions → i < regionWords
-      → get_or (guardWords (namedGuard n)) (headWords + base x + i) 0 ≡ get_or (namedRegion x) i 0
-  unfolding namedGuard
+  region-at : (x i : ℕ) → x < n → n ≤ most_regions → i < region_words
+      → get_or (guard_words (named_guard n)) (head_words + base x + i) 0 ≡ get_or (named_region x) i 0
+  unfolding named_guard
   region-at x i h l k =
-      let e : headWords + base x + i ≡ headWords + (base x + i) = omega arith in
-      ap (λ (q : ℕ). get_or (guardWords (namedGuard n)) q 0) e
-      ∙ sym (get_or-drop headWords (guardWords (namedGuard n)) (base x + i) 0)
-      ∙ block_at mostRegions regionWords region region-size x i (omega arith) k
-      ∙ ap (λ (b : Bool). get_or (cond b (namedRegion x) (replicate regionWords 0)) i 0) (lt-ltb x n h)
+      let e : head_words + base x + i ≡ head_words + (base x + i) = omega arith in
+      ap (λ (q : ℕ). get_or (guard_words (named_guard n)) q 0) e
+      ∙ sym (get_or-drop head_words (guard_words (named_guard n)) (base x + i) 0)
+      ∙ block_at most_regions region_words region region-size x i (omega arith) k
+      ∙ ap (λ (b : Bool). get_or (cond b (named_region x) (replicate region_words 0)) i 0) (lt-ltb x n h)
 
-  sub_word : (x s i : ℕ) → x < n → n ≤ mostRegions → s < 2 → i < subregionWords
-      → get_or (guardWords (namedGuard n)) (headWords + sub x s + i) 0 ≡ get_or (namedSub x s) i 0
+  sub_word : (x s i : ℕ) → x < n → n ≤ most_regions → s < 2 → i < subregion_words
+      → get_or (guard_words (named_guard n)) (head_words + sub x s + i) 0 ≡ get_or (named_sub x s) i 0
   sub_word x s i h l t k =
-      let e : headWords + sub x s + i ≡ headWords + base x + (baseWords + (subregionWords * s + i)) = omega arith in
-      ap (λ (q : ℕ). get_or (guardWords (namedGuard n)) q 0) e
-      ∙ region-at x (baseWords + (subregionWords * s + i)) h l (omega arith) ∙ sub_at x s i t k
+      let e : head_words + sub x s + i ≡ head_words + base x + (base_words + (subregion_words * s + i)) = omega arith in
+      ap (λ (q : ℕ). get_or (guard_words (named_guard n)) q 0) e
+      ∙ region-at x (base_words + (subregion_words * s + i)) h l (omega arith) ∙ sub_at x s i t k
 
   -- of one with as many base regions, or more
-  guard-has : (k : ℕ) → k ≤ n → n ≤ mostRegions → risaf-named.Has k (namedGuard n)
-  unfolding namedGuard namedRegion namedSub row_of ofHead ofBase ofSub
+  guard-has : (k : ℕ) → k ≤ n → n ≤ most_regions → risaf-named.Has k (named_guard n)
+  unfolding named_guard named_region named_sub row_of of_head of_base of_sub
   guard-has k m t (OfHead Cr) placed = λ j l h. h
   guard-has k m t (OfHead Iasr) placed = λ j l h. h
   guard-has k m t (OfHead Iacr) placed = λ j l h. h
@@ -205,11 +205,11 @@ module _ (n : ℕ) where
   guard-has k m t (OfBase x Cfgr) h = within-is _ _ (region-at x 0 (omega arith) t (lit< tt))
   guard-has k m t (OfBase x Start) h = within-is _ _ (region-at x start_at (omega arith) t (lit< tt))
   guard-has k m t (OfBase x End) h = within-is _ _ (region-at x end_at (omega arith) t (lit< tt))
-  guard-has k m t (OfBase x Cidcfgr) h = within-is _ _ (region-at x cidcfgrAt (omega arith) t (lit< tt))
+  guard-has k m t (OfBase x Cidcfgr) h = within-is _ _ (region-at x cidcfgr_at (omega arith) t (lit< tt))
   guard-has k m t (OfSub x s SubCfgr) (h, l) = within-is _ _ (sub_word x s 0 (omega arith) t l (lit< tt))
   guard-has k m t (OfSub x s SubStart) (h, l) = within-is _ _ (sub_word x s start_at (omega arith) t l (lit< tt))
   guard-has k m t (OfSub x s SubEnd) (h, l) = within-is _ _ (sub_word x s end_at (omega arith) t l (lit< tt))
-  guard-has k m t (OfSub x s Nest) (h, l) = within-is _ _ (sub_word x s nestAt (omega arith) t l (lit< tt))
+  guard-has k m t (OfSub x s Nest) (h, l) = within-is _ _ (sub_word x s nest_at (omega arith) t l (lit< tt))
   guard-has k m t Unknown placed = within-zero _
 
 map_at : {A B : Type 0} (f : A → B) (l : List A) (i : ℕ) (d : A) (e : B) → i < length l → get_or (map f l) i e ≡ f (get_or l i d)
@@ -217,10 +217,10 @@ map_at f [] i d e h = absurd (omega arith)
 map_at f (x ∷ l) zero d e h = refl
 map_at f (x ∷ l) (suc i) d e h = map_at f l i d e (omega arith)
 
-pub guards-have : (n : ℕ) → risaf-named.Has (shape_of n).regions (guardAt namedState (shape_of n).place)
-unfolding namedState
+pub guards-have : (n : ℕ) → risaf-named.Has (shape_of n).regions (guard_at named_state (shape_of n).place)
+unfolding named_state
 guards-have n =
-    by-guard (λ (s : Shape). s.regions ≤ mostRegions → risaf-named.Has s.regions (guardAt namedState s.place)) n
+    by-guard (λ (s : Shape). s.regions ≤ most_regions → risaf-named.Has s.regions (guard_at named_state s.place)) n
     (λ h. guard-has _ 0 (omega arith) (lit≤ tt))
-    (λ i h q l. rw (map_at (λ (g : GuardRow). namedGuard g.regions) guards i no_row (guardFrom []) h) (guard-has _ _ (omega arith) l))
+    (λ i h q l. rw (map_at (λ (g : GuardRow). named_guard g.regions) guards i no_row (guard_from []) h) (guard-has _ _ (omega arith) l))
     (regions-most n)

@@ -14,16 +14,16 @@ use Rattle.access.specs.declared.answer.Answer.{Answer}
 use Rattle.access.specs.declared.answer.Answer.TheVariants.{Done, Refused, Rejected}
 use Rattle.access.specs.declared.answer.Why.TheVariants.{NoSuch, Misaligned, Outside}
 use Rattle.access.specs.declared.kind.Kind.{Kind}
-use Rattle.regions.specs.Rules.{Tests, reasonOf, decided}
+use Rattle.regions.specs.Rules.{Tests, reason_of, decided}
 use Rattle.regions.proofs.OneTest.{security-by, privilege-by}
 use Rattle.regions.specs.declared.rules.Verdict.{Verdict}
-use Rattle.rifsc.specs.Masters.{isMaster}
+use Rattle.rifsc.specs.Masters.{is_master}
 use Rattle.risaf.specs.Guards.{shape_of}
-use Rattle.risaf.specs.Memory.{memoryStepped}
+use Rattle.risaf.specs.Memory.{memory_stepped}
 use Rattle.risaf.proofs.MemoryAnswer.{ruled, answer-by}
-use Rattle.device.specs.Reasons.{IsAccess, Reaches, testsAt, NoneFails, FirstFails, withKind, withDirection}
+use Rattle.device.specs.Reasons.{IsAccess, Reaches, tests_at, NoneFails, FirstFails, with_kind, with_direction}
 use Rattle.device.specs.State.{State, guard_of}
-use Rattle.device.specs.Step.{Outcome, memoryStep, step}
+use Rattle.device.specs.Step.{Outcome, memory_step, step}
 use Rattle.device.specs.declared.event.Event.{Event}
 use Rattle.device.specs.declared.event.Event.TheVariants.{Reset, Register, Peripheral, Memory, Master}
 use Rattle.device.specs.declared.event.MemoryAccess.{MemoryAccess}
@@ -33,14 +33,14 @@ use Rattle.device.proofs.NamedDecide.{no-master}
 -- ---- a master's access is one that carries its kind
 
 access-step : (e : Event) (s : State) (a : MemoryAccess) → IsAccess e s a → Reaches e s → step e s ≡ step (Memory a) s
-unfolding isMaster
+unfolding is_master
 access-step Reset s a is r = absurd is
 access-step (Register b) s a is r = absurd is
 access-step (Peripheral b) s a is r = absurd is
 access-step (Memory b) s a is r = ap (λ (e : Event). step e s) is
-access-step (Master b) s a is r = by (isMaster b.master) refl
+access-step (Master b) s a is r = by (is_master b.master) refl
   where
-    by : (t : Bool) → isMaster b.master ≡ t → step (Master b) s ≡ step (Memory a) s
+    by : (t : Bool) → is_master b.master ≡ t → step (Master b) s ≡ step (Memory a) s
     by true h = master-carries b s (ltb-true _ _ h) ∙ ap (λ (e : Event). step e s) is
     by false h = absurd (r.0 (ap (λ (x : Outcome). number_of x.answer) (no-master b s h)))
 
@@ -54,12 +54,12 @@ module _ (s : State) (a : MemoryAccess) where
   verdict = decided (shape_of a.guard.0).bus (guard_of s a.guard.0).regions (shape_of a.guard.0).regions a.offset a.kind
 
   answer-is : (P : Answer → Type 0) → P (Rejected NoSuch) → P (Rejected Misaligned) → P (Rejected Outside) → P (ruled verdict) → P answer
-  unfolding step memoryStep memoryStepped
+  unfolding step memory_step memory_stepped
   answer-is P four five six rest = answer-by _ (shape_of a.guard.0) a.offset a.width a.kind P verdict four five six rest
 
 -- the rules' answer, by the tests
 ruled-by : (P : Answer → Type 0) (rule : ℕ) (t : Tests) → (NoneFails t → P (Done rule)) → ((r : ℕ) → FirstFails r t → P (Refused r))
-    → P (unless (eqb (reasonOf t) 0) (Refused (reasonOf t)) (Done rule))
+    → P (unless (eqb (reason_of t) 0) (Refused (reason_of t)) (Done rule))
 ruled-by P rule t none first = go t.security refl t.privilege refl t.compartment refl
   where
     go : (x : Bool) → t.security ≡ x → (y : Bool) → t.privilege ≡ y → (z : Bool) → t.compartment ≡ z
@@ -71,15 +71,15 @@ ruled-by P rule t none first = go t.security refl t.privilege refl t.compartment
 
 module _ (s : State) (a : MemoryAccess) where
   by_tests : (P : Answer → Type 0) → P (Rejected NoSuch) → P (Rejected Misaligned) → P (Rejected Outside)
-      → ((rule : ℕ) → NoneFails (testsAt s a) → P (Done rule)) → ((r : ℕ) → FirstFails r (testsAt s a) → P (Refused r))
+      → ((rule : ℕ) → NoneFails (tests_at s a) → P (Done rule)) → ((r : ℕ) → FirstFails r (tests_at s a) → P (Refused r))
       → P (answer s a)
   unfolding decided
-  by_tests P four five six none first = answer-is s a P four five six (ruled-by P _ (testsAt s a) (none _) first)
+  by_tests P four five six none first = answer-is s a P four five six (ruled-by P _ (tests_at s a) (none _) first)
 
   -- done: every test is passed
-  passes-all : number_of (answer s a) ≡ 0 → NoneFails (testsAt s a)
+  passes-all : number_of (answer s a) ≡ 0 → NoneFails (tests_at s a)
   passes-all =
-      by_tests (λ x. number_of x ≡ 0 → NoneFails (testsAt s a)) (λ e. absurd (omega (arith, e))) (λ e. absurd (omega (arith, e)))
+      by_tests (λ x. number_of x ≡ 0 → NoneFails (tests_at s a)) (λ e. absurd (omega (arith, e))) (λ e. absurd (omega (arith, e)))
       (λ e. absurd (omega (arith, e))) (λ rule n e. n) (λ r f e. absurd (omega (arith, e)))
 
 -- ---- the theorems: e is the access a, of a kind or by a master
@@ -97,37 +97,37 @@ Reached x = (number_of x ≡ 4 → ⊥) × (number_of x ≡ 5 → ⊥) × (numbe
 
 module _ (e : Event) (s : State) (a : MemoryAccess) (is : IsAccess e s a) where
   -- granted exactly when no test fails
-  pub granted-exactly : Reaches e s → (number_of (step e s).answer ≡ 0) ↔ NoneFails (testsAt s a)
+  pub granted-exactly : Reaches e s → (number_of (step e s).answer ≡ 0) ↔ NoneFails (tests_at s a)
   granted-exactly r =
       let same = access-step e s a is r in
-      subst (λ (o : Outcome). Reached o.answer → (number_of o.answer ≡ 0) ↔ NoneFails (testsAt s a)) (sym same)
-      (by_tests s a (λ x. Reached x → (number_of x ≡ 0) ↔ NoneFails (testsAt s a)) (λ r. absurd (r.0 refl)) (λ r. absurd (r.1 refl))
+      subst (λ (o : Outcome). Reached o.answer → (number_of o.answer ≡ 0) ↔ NoneFails (tests_at s a)) (sym same)
+      (by_tests s a (λ x. Reached x → (number_of x ≡ 0) ↔ NoneFails (tests_at s a)) (λ r. absurd (r.0 refl)) (λ r. absurd (r.1 refl))
       (λ r. absurd (r.2 refl)) (λ rule n r. (λ q. n, λ q. refl))
-      (λ v f r. (λ q. absurd (omega (arith, q)), λ n. absurd (not-both v (testsAt s a) f n))))
+      (λ v f r. (λ q. absurd (omega (arith, q)), λ n. absurd (not-both v (tests_at s a) f n))))
       r
 
   -- and else refused
-  pub refused-else : Reaches e s → (NoneFails (testsAt s a) → ⊥) → number_of (step e s).answer ≡ 1
+  pub refused-else : Reaches e s → (NoneFails (tests_at s a) → ⊥) → number_of (step e s).answer ≡ 1
   refused-else r =
       let same = access-step e s a is r in
-      subst (λ (o : Outcome). Reached o.answer → (NoneFails (testsAt s a) → ⊥) → number_of o.answer ≡ 1) (sym same)
-      (by_tests s a (λ x. Reached x → (NoneFails (testsAt s a) → ⊥) → number_of x ≡ 1) (λ r. absurd (r.0 refl)) (λ r. absurd (r.1 refl))
+      subst (λ (o : Outcome). Reached o.answer → (NoneFails (tests_at s a) → ⊥) → number_of o.answer ≡ 1) (sym same)
+      (by_tests s a (λ x. Reached x → (NoneFails (tests_at s a) → ⊥) → number_of x ≡ 1) (λ r. absurd (r.0 refl)) (λ r. absurd (r.1 refl))
       (λ r. absurd (r.2 refl)) (λ rule n r q. absurd (q n)) (λ v f r q. refl))
       r
 
   -- refused, its value is 1, 2 or 3: the first test that fails
-  pub refused-for : number_of (step e s).answer ≡ 1 → FirstFails (value_of (step e s).answer) (testsAt s a)
+  pub refused-for : number_of (step e s).answer ≡ 1 → FirstFails (value_of (step e s).answer) (tests_at s a)
   refused-for h =
       let same = access-step e s a is (λ q. omega (arith, h, q), λ q. omega (arith, h, q), λ q. omega (arith, h, q)) in
-      subst (λ (o : Outcome). number_of o.answer ≡ 1 → FirstFails (value_of o.answer) (testsAt s a)) (sym same)
-      (by_tests s a (λ x. number_of x ≡ 1 → FirstFails (value_of x) (testsAt s a)) (λ q. absurd (omega (arith, q)))
+      subst (λ (o : Outcome). number_of o.answer ≡ 1 → FirstFails (value_of o.answer) (tests_at s a)) (sym same)
+      (by_tests s a (λ x. number_of x ≡ 1 → FirstFails (value_of x) (tests_at s a)) (λ q. absurd (omega (arith, q)))
       (λ q. absurd (omega (arith, q))) (λ q. absurd (omega (arith, q))) (λ rule n q. absurd (omega (arith, q))) (λ v f q. f))
       h
 
   pub reason-number : number_of (step e s).answer ≡ 1 → (1 ≤ value_of (step e s).answer) × (value_of (step e s).answer ≤ 3)
   reason-number h = by (value_of (step e s).answer) (refused-for h)
     where
-      by : (r : ℕ) → FirstFails r (testsAt s a) → (1 ≤ r) × (r ≤ 3)
+      by : (r : ℕ) → FirstFails r (tests_at s a) → (1 ≤ r) × (r ≤ 3)
       by zero f = absurd f
       by (suc zero) f = (lit≤ tt, lit≤ tt)
       by (suc (suc zero)) f = (lit≤ tt, lit≤ tt)
@@ -135,10 +135,10 @@ module _ (e : Event) (s : State) (a : MemoryAccess) (is : IsAccess e s a) where
       by (suc (suc (suc (suc r)))) f = absurd f
 
   -- refused for 2 or 3, it passes the security test
-  pub later-secure : number_of (step e s).answer ≡ 1 → 2 ≤ value_of (step e s).answer → (testsAt s a).security ≡ true
+  pub later-secure : number_of (step e s).answer ≡ 1 → 2 ≤ value_of (step e s).answer → (tests_at s a).security ≡ true
   later-secure h = by (value_of (step e s).answer) (refused-for h)
     where
-      by : (r : ℕ) → FirstFails r (testsAt s a) → 2 ≤ r → (testsAt s a).security ≡ true
+      by : (r : ℕ) → FirstFails r (tests_at s a) → 2 ≤ r → (tests_at s a).security ≡ true
       by zero f l = absurd f
       by (suc zero) f l = absurd (omega arith)
       by (suc (suc zero)) f l = f.0
@@ -147,15 +147,15 @@ module _ (e : Event) (s : State) (a : MemoryAccess) (is : IsAccess e s a) where
 
   -- refused for 1, it is not granted with another CID, direction or privilege
   pub security-stays : number_of (step e s).answer ≡ 1 → value_of (step e s).answer ≡ 1 → (k : Kind) → k.secure ≡ a.kind.secure
-      → number_of (step (Memory (withKind k a)) s).answer ≡ 0 → ⊥
+      → number_of (step (Memory (with_kind k a)) s).answer ≡ 0 → ⊥
   security-stays h v k same granted =
-      let f : (testsAt s a).security ≡ false = subst (λ (r : ℕ). FirstFails r (testsAt s a)) v (refused-for h) in
-      true≢false (sym (passes-all s (withKind k a) granted).0 ∙ security-by (shape_of a.guard.0).bus _ _ a.offset (heard (shape_of a.guard.0).bus k) (heard (shape_of a.guard.0).bus a.kind) same ∙ f)
+      let f : (tests_at s a).security ≡ false = subst (λ (r : ℕ). FirstFails r (tests_at s a)) v (refused-for h) in
+      true≢false (sym (passes-all s (with_kind k a) granted).0 ∙ security-by (shape_of a.guard.0).bus _ _ a.offset (heard (shape_of a.guard.0).bus k) (heard (shape_of a.guard.0).bus a.kind) same ∙ f)
 
   -- refused for 2, it is not granted in the other direction
   pub privilege-stays : number_of (step e s).answer ≡ 1 → value_of (step e s).answer ≡ 2 → (write : Bool)
-      → number_of (step (Memory (withKind (withDirection write a.kind) a)) s).answer ≡ 0 → ⊥
+      → number_of (step (Memory (with_kind (with_direction write a.kind) a)) s).answer ≡ 0 → ⊥
   privilege-stays h v write granted =
-      let k = withDirection write a.kind in
-      let f : FirstFails 2 (testsAt s a) = subst (λ (r : ℕ). FirstFails r (testsAt s a)) v (refused-for h) in
-      true≢false (sym (passes-all s (withKind k a) granted).1 ∙ privilege-by (shape_of a.guard.0).bus _ _ a.offset (heard (shape_of a.guard.0).bus k) (heard (shape_of a.guard.0).bus a.kind) refl refl ∙ f.1)
+      let k = with_direction write a.kind in
+      let f : FirstFails 2 (tests_at s a) = subst (λ (r : ℕ). FirstFails r (tests_at s a)) v (refused-for h) in
+      true≢false (sym (passes-all s (with_kind k a) granted).1 ∙ privilege-by (shape_of a.guard.0).bus _ _ a.offset (heard (shape_of a.guard.0).bus k) (heard (shape_of a.guard.0).bus a.kind) refl refl ∙ f.1)

@@ -6,8 +6,8 @@ use Prim.Native.Nat.{ℕ, zero, suc, ◌+◌}
 use native.Mathlib.Numerals.{add-one}
 use native.Mathlib.Omega.{arith}
 use lib.ListN.{length, set}
-use Rattle.risaf.specs.Contents.{guardWords, guardFrom, reset}
-use Rattle.risaf.specs.Guards.{GuardRow, guards, guardCount, shapeIn, shape_of, isGuard}
+use Rattle.risaf.specs.Contents.{guard_words, guard_from, reset}
+use Rattle.risaf.specs.Guards.{GuardRow, guards, guard_count, shape_in, shape_of, is_guard}
 use Rattle.risaf.specs.declared.contents.Guard.{Guard}
 use Rattle.risaf.specs.declared.guards.Shape.{Shape}
 use Rattle.rifsc.specs.Contents as rifsc
@@ -15,24 +15,24 @@ use Rattle.rifsc.specs.declared.contents.Rifsc.{Rifsc}
 use Rattle.iac.specs.Contents as iac
 use Rattle.iac.specs.declared.contents.Iac.{Iac}
 use Rattle.device.specs.Layout.{state_of}
-use Rattle.device.specs.State.{State, withRifsc, withIac, with_guards, withGuardAt, withGuard, resetState}
+use Rattle.device.specs.State.{State, with_rifsc, with_iac, with_guards, with_guard_at, with_guard, reset_state}
 use Rattle.device.proofs.GuardLayout.{guards-count}
 
 -- ---- the guard with a number, if there is one
 
 module _ (s : State) (n : ℕ) {shape : Shape} (es : shape ≡ shape_of n) where
-  is-there : {b : Bool} → shape.there ≡ b → isGuard n ≡ b
+  is-there : {b : Bool} → shape.there ≡ b → is_guard n ≡ b
   is-there h = sym (ap (λ (x : Shape). x.there) es) ∙ h
 
-  pub guard-reset : {t : State} {w : List ℕ} → shape.there ≡ true → w ≡ guardWords (reset shape.granule)
-      → t ≡ withGuardAt s shape.place (guardFrom w) → t ≡ cond (isGuard n) (withGuard s n (reset (shape_of n).granule)) s
-  unfolding withGuard
+  pub guard-reset : {t : State} {w : List ℕ} → shape.there ≡ true → w ≡ guard_words (reset shape.granule)
+      → t ≡ with_guard_at s shape.place (guard_from w) → t ≡ cond (is_guard n) (with_guard s n (reset (shape_of n).granule)) s
+  unfolding with_guard
   guard-reset h ew et =
       rw (is-there h)
-      (et ∙ ap (λ (u : List ℕ). withGuardAt s shape.place (guardFrom u)) ew
-      ∙ ap (λ (x : Shape). withGuardAt s x.place (reset x.granule)) es)
+      (et ∙ ap (λ (u : List ℕ). with_guard_at s shape.place (guard_from u)) ew
+      ∙ ap (λ (x : Shape). with_guard_at s x.place (reset x.granule)) es)
 
-  pub guard_none : shape.there ≡ false → s ≡ cond (isGuard n) (withGuard s n (reset (shape_of n).granule)) s
+  pub guard_none : shape.there ≡ false → s ≡ cond (is_guard n) (with_guard s n (reset (shape_of n).granule)) s
   guard_none h = rw (is-there h) refl
 
 -- ---- guards stored one after the other, from a place on
@@ -55,20 +55,20 @@ stored-all (h ∷ hs) (g ∷ gs) e = stored-behind hs 0 h gs ∙ ap (λ (l : Lis
 
 -- ---- the guards whose numbers are below n
 
-abbrev pub resetBelow : ℕ → List Guard → List Guard
-resetBelow zero gs = gs
-resetBelow (suc n) gs =
-    cond (isGuard n) (set (resetBelow n gs) (shape_of n).place (reset (shape_of n).granule)) (resetBelow n gs)
+abbrev pub reset_below : ℕ → List Guard → List Guard
+reset_below zero gs = gs
+reset_below (suc n) gs =
+    cond (is_guard n) (set (reset_below n gs) (shape_of n).place (reset (shape_of n).granule)) (reset_below n gs)
 
 -- one more
-pub reset-more : (s : State) (n : ℕ) {t : State} → t ≡ with_guards s (resetBelow n s.guards)
-    → cond (isGuard n) (withGuard t n (reset (shape_of n).granule)) t ≡ with_guards s (resetBelow (n + 1) s.guards)
-unfolding withGuard
-reset-more s n e = rw (e, add-one) (go (isGuard n))
+pub reset-more : (s : State) (n : ℕ) {t : State} → t ≡ with_guards s (reset_below n s.guards)
+    → cond (is_guard n) (with_guard t n (reset (shape_of n).granule)) t ≡ with_guards s (reset_below (n + 1) s.guards)
+unfolding with_guard
+reset-more s n e = rw (e, add-one) (go (is_guard n))
   where
     go : (b : Bool)
-        → cond b (withGuardAt (with_guards s (resetBelow n s.guards)) (shape_of n).place (reset (shape_of n).granule)) (with_guards s (resetBelow n s.guards))
-        ≡ with_guards s (cond b (set (resetBelow n s.guards) (shape_of n).place (reset (shape_of n).granule)) (resetBelow n s.guards))
+        → cond b (with_guard_at (with_guards s (reset_below n s.guards)) (shape_of n).place (reset (shape_of n).granule)) (with_guards s (reset_below n s.guards))
+        ≡ with_guards s (cond b (set (reset_below n s.guards) (shape_of n).place (reset (shape_of n).granule)) (reset_below n s.guards))
     go true = refl
     go false = refl
 
@@ -76,12 +76,12 @@ reset-more s n e = rw (e, add-one) (go (isGuard n))
 abbrev pub numbers : ℕ
 numbers = 24
 
-reset-all : (gs : List Guard) → length gs ≡ guardCount → resetBelow numbers gs ≡ map (λ (g : GuardRow). reset g.granule) guards
-unfolding stored shape_of shapeIn
+reset-all : (gs : List Guard) → length gs ≡ guard_count → reset_below numbers gs ≡ map (λ (g : GuardRow). reset g.granule) guards
+unfolding stored shape_of shape_in
 reset-all gs e = stored-all (map (λ (g : GuardRow). reset g.granule) guards) gs e
 
-pub state-reset : (m : List ℕ) (s : State) {t : State} {r : Rifsc} {i : Iac} → r ≡ rifsc.reset → t ≡ withRifsc s r
-    → i ≡ iac.reset → state_of m ≡ withIac t i → with_guards (state_of m) (resetBelow numbers (state_of m).guards) ≡ resetState
-unfolding resetState
+pub state-reset : (m : List ℕ) (s : State) {t : State} {r : Rifsc} {i : Iac} → r ≡ rifsc.reset → t ≡ with_rifsc s r
+    → i ≡ iac.reset → state_of m ≡ with_iac t i → with_guards (state_of m) (reset_below numbers (state_of m).guards) ≡ reset_state
+unfolding reset_state
 state-reset m s er et ei em =
-    ap₂ with_guards (em ∙ ap₂ withIac (et ∙ ap (withRifsc s) er) ei) (reset-all (state_of m).guards (guards-count m))
+    ap₂ with_guards (em ∙ ap₂ with_iac (et ∙ ap (with_rifsc s) er) ei) (reset-all (state_of m).guards (guards-count m))

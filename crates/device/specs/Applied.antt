@@ -4,20 +4,20 @@ use Rattle.access.specs.declared.answer.Answer.{Answer}
 use Rattle.access.specs.declared.answer.Answer.TheVariants.{Done, Rejected}
 use Rattle.access.specs.declared.answer.Why.TheVariants.{WrongLength}
 use Rattle.words.specs.Bit.{one}
-use Rattle.iac.specs.Held.{heldLine}
-use Rattle.device.specs.Layout.{stateWords, layout, state_of}
+use Rattle.iac.specs.Held.{held_line}
+use Rattle.device.specs.Layout.{state_words, layout, state_of}
 use Rattle.device.specs.Step.{step}
 use Rattle.device.specs.declared.event.Event.{Event}
 
 abbrev pub sized : List ℕ → Bool
-sized m = eqb (length m) stateWords
+sized m = eqb (length m) state_words
 
-unfoldable pub appliedAnswer : Event → List ℕ → Answer
-appliedAnswer e m = cond (sized m) (step e (state_of m)).answer (Rejected WrongLength)
+unfoldable pub applied_answer : Event → List ℕ → Answer
+applied_answer e m = cond (sized m) (step e (state_of m)).answer (Rejected WrongLength)
 
-unfoldable pub appliedState : Event → List ℕ → List ℕ
-appliedState e m = cond (sized m) (layout (step e (state_of m)).next) m
+unfoldable pub applied_state : Event → List ℕ → List ℕ
+applied_state e m = cond (sized m) (layout (step e (state_of m)).next) m
 
 -- the interrupt line of the state in lent memory, as it is kept: value 1 where it is up
-unfoldable pub lineAnswer : List ℕ → Answer
-lineAnswer m = cond (sized m) (Done (one (heldLine (state_of m).iac))) (Rejected WrongLength)
+unfoldable pub line_answer : List ℕ → Answer
+line_answer m = cond (sized m) (Done (one (held_line (state_of m).iac))) (Rejected WrongLength)

@@ -5,5 +5,5 @@ use Rattle.risaf.specs.declared.guards.GuardNumber.{GuardNumber}
 use Rattle.device.specs.declared.event.Event.{Event}
 use Rattle.device.specs.declared.event.Event.TheVariants.{Memory}
 
-abbrev pub memoryAsked : GuardNumber → ℕ → ℕ → Kind → Event
-memoryAsked guard offset width kind = Memory (record { guard = guard; offset = offset; width = width; kind = kind })
+abbrev pub memory_asked : GuardNumber → ℕ → ℕ → Kind → Event
+memory_asked guard offset width kind = Memory (record { guard = guard; offset = offset; width = width; kind = kind })

@@ -5,7 +5,7 @@ use Rattle.regions.specs.Words.{sub}
 use Rattle.rifsc.specs.declared.contents.Rifsc.{Rifsc}
 use Rattle.rifsc.specs.Registers.{ppsr}
 use Rattle.risaf.specs.declared.contents.Guard.{Guard}
-use Rattle.risaf.specs.Guards.{isGuard, shape_of}
+use Rattle.risaf.specs.Guards.{is_guard, shape_of}
 use Rattle.device.specs.State.{State, guard_of}
 use Rattle.device.specs.declared.event.Event.{Event}
 use Rattle.device.specs.declared.event.Event.TheVariants.{Reset, Register, Peripheral, Memory, Master}
@@ -15,29 +15,29 @@ use Rattle.device.specs.declared.event.Event.TheVariants.{Reset, Register, Perip
 pub data Lock : Type 0 where
   -- GLOCK of the controller, and of its RIMC_CR
   glock : Lock
-  rimcLock : Lock
+  rimc_lock : Lock
   -- RLOCK: bit i of RCFGLOCKRx
   rlock : (x i : ℕ) → Lock
   -- GLOCK of guard n
-  guardLock : (n : ℕ) → Lock
+  guard_lock : (n : ℕ) → Lock
   -- RLOCK of subregion p of base region x of guard n
-  subLock : (n x p : ℕ) → Lock
+  sub_lock : (n x p : ℕ) → Lock
 
 -- the bit is one there is: its PPSR bit is 1, the guard one that there is, the base region one of the guard's
 abbrev pub Named : Lock → Type 0
 Named glock = Unit {0}
-Named rimcLock = Unit {0}
+Named rimc_lock = Unit {0}
 Named (rlock x i) = bit (ppsr x) i ≡ true
-Named (guardLock n) = isGuard n ≡ true
-Named (subLock n x p) = (isGuard n ≡ true) × (x < (shape_of n).regions) × (p < 2)
+Named (guard_lock n) = is_guard n ≡ true
+Named (sub_lock n x p) = (is_guard n ≡ true) × (x < (shape_of n).regions) × (p < 2)
 
 -- the bit as it is stored: of CR, RIMC_CR, RCFGLOCKRx, the guard's CR, the subregion's CFGR
 unfoldable pub is_set : Lock → State → Bool
 is_set glock s = bit s.rifsc.cr 0
-is_set rimcLock s = bit s.rifsc.rimccr 0
+is_set rimc_lock s = bit s.rifsc.rimccr 0
 is_set (rlock x i) s = bit (get_or s.rifsc.rcfglockr x 0) i
-is_set (guardLock n) s = bit (guard_of s n).cr 0
-is_set (subLock n x p) s = bit (get_or (guard_of s n).regions (sub x p) 0) 1
+is_set (guard_lock n) s = bit (guard_of s n).cr 0
+is_set (sub_lock n x p) s = bit (get_or (guard_of s n).regions (sub x p) 0) 1
 
 abbrev pub NotReset : Event → Type 0
 NotReset e = e ≡ Reset → ⊥
@@ -49,8 +49,8 @@ NoReset (e ∷ es) = NotReset e × NoReset es
 -- ---- settings: all but the flags and the fault registers
 
 -- a guard's CR and regions
-abbrev pub guardSettings : Guard → ℕ × List ℕ
-guardSettings g = (g.cr, g.regions)
+abbrev pub guard_settings : Guard → ℕ × List ℕ
+guard_settings g = (g.cr, g.regions)
 
 pub record Settings : Type 0 where
   pub rifsc : Rifsc
@@ -58,7 +58,7 @@ pub record Settings : Type 0 where
   pub guards : List (ℕ × List ℕ)
 
 unfoldable pub settings : State → Settings
-settings s = record { rifsc = s.rifsc; ier = s.iac.ier; guards = map guardSettings s.guards }
+settings s = record { rifsc = s.rifsc; ier = s.iac.ier; guards = map guard_settings s.guards }
 
 -- reset and register writes, the events that can change a setting
 abbrev pub configures : Event → Bool

@@ -5,7 +5,7 @@ use Rattle.access.specs.Bus.{heard}
 use Rattle.access.specs.declared.kind.Kind.{Kind}
 use Rattle.regions.specs.Rules.{Tests, tests}
 use Rattle.risaf.specs.Guards.{shape_of}
-use Rattle.device.specs.Masters.{madeAs, carriedBy}
+use Rattle.device.specs.Masters.{made_as, carried_by}
 use Rattle.device.specs.State.{State, guard_of}
 use Rattle.device.specs.Step.{step}
 use Rattle.device.specs.declared.event.Event.{Event}
@@ -18,15 +18,15 @@ IsAccess Reset s a = ⊥
 IsAccess (Register b) s a = ⊥
 IsAccess (Peripheral b) s a = ⊥
 IsAccess (Memory b) s a = Memory b ≡ Memory a
-IsAccess (Master b) s a = madeAs b (carriedBy b s) ≡ Memory a
+IsAccess (Master b) s a = made_as b (carried_by b s) ≡ Memory a
 
 -- it gets none of 4, 5 and 6
 abbrev pub Reaches : Event → State → Type 0
 Reaches e s = (number_of (step e s).answer ≡ 4 → ⊥) × (number_of (step e s).answer ≡ 5 → ⊥) × (number_of (step e s).answer ≡ 6 → ⊥)
 
 -- the tests of the rule that governs there, of the asking as the guard's bus hears it
-abbrev pub testsAt : State → MemoryAccess → Tests
-testsAt s a =
+abbrev pub tests_at : State → MemoryAccess → Tests
+tests_at s a =
     let shape = shape_of a.guard.0 in
     tests shape.bus (guard_of s a.guard.0).regions shape.regions a.offset (heard shape.bus a.kind)
 
@@ -43,9 +43,9 @@ FirstFails (suc (suc (suc zero))) t = (t.security ≡ true) × (t.privilege ≡ 
 FirstFails (suc (suc (suc (suc n)))) t = ⊥
 
 -- the same access of another kind
-abbrev pub withKind : Kind → MemoryAccess → MemoryAccess
-withKind k a = record { guard = a.guard; offset = a.offset; width = a.width; kind = k }
+abbrev pub with_kind : Kind → MemoryAccess → MemoryAccess
+with_kind k a = record { guard = a.guard; offset = a.offset; width = a.width; kind = k }
 
 -- in another direction
-abbrev pub withDirection : Bool → Kind → Kind
-withDirection write k = record { cid = k.cid; write = write; privileged = k.privileged; secure = k.secure }
+abbrev pub with_direction : Bool → Kind → Kind
+with_direction write k = record { cid = k.cid; write = write; privileged = k.privileged; secure = k.secure }

@@ -17,33 +17,33 @@ pub record State : Type 0 where
   pub guards : List Guard
 
 -- the guard at a place among them, and guard n
-abbrev pub guardAt : State → ℕ → Guard
-guardAt s place = get_or s.guards place (risaf.guardFrom [])
+abbrev pub guard_at : State → ℕ → Guard
+guard_at s place = get_or s.guards place (risaf.guard_from [])
 
 unfoldable pub guard_of : State → ℕ → Guard
-guard_of s n = guardAt s (shape_of n).place
+guard_of s n = guard_at s (shape_of n).place
 
-abbrev pub withRifsc : State → Rifsc → State
-withRifsc s r = record { rifsc = r; iac = s.iac; guards = s.guards }
+abbrev pub with_rifsc : State → Rifsc → State
+with_rifsc s r = record { rifsc = r; iac = s.iac; guards = s.guards }
 
-abbrev pub withIac : State → Iac → State
-withIac s i = record { rifsc = s.rifsc; iac = i; guards = s.guards }
+abbrev pub with_iac : State → Iac → State
+with_iac s i = record { rifsc = s.rifsc; iac = i; guards = s.guards }
 
 abbrev pub with_guards : State → List Guard → State
 with_guards s gs = record { rifsc = s.rifsc; iac = s.iac; guards = gs }
 
-abbrev pub withGuardAt : State → ℕ → Guard → State
-withGuardAt s place g = with_guards s (set s.guards place g)
+abbrev pub with_guard_at : State → ℕ → Guard → State
+with_guard_at s place g = with_guards s (set s.guards place g)
 
-unfoldable pub withGuard : State → ℕ → Guard → State
-withGuard s n g = withGuardAt s (shape_of n).place g
+unfoldable pub with_guard : State → ℕ → Guard → State
+with_guard s n g = with_guard_at s (shape_of n).place g
 
 -- the state with flag i raised
 abbrev pub flagged : Flag → State → State
-flagged i s = withIac s (raise i s.iac)
+flagged i s = with_iac s (raise i s.iac)
 
-unfoldable pub resetState : State
-resetState =
+unfoldable pub reset_state : State
+reset_state =
     record {
       rifsc = rifsc.reset;
       iac = iac.reset;

@@ -8,14 +8,14 @@ use Rattle.access.specs.declared.checks.Checks.{Checks}
 use Rattle.access.specs.declared.flag.Flag.{Flag}
 use Rattle.access.specs.declared.kind.Kind.{Kind}
 use Rattle.access.specs.declared.request.Request.{Request}
-use Rattle.rifsc.specs.Masters.{isMaster, attributesOf, carried}
-use Rattle.rifsc.specs.Peripherals.{exists, filterOf, grants}
+use Rattle.rifsc.specs.Masters.{is_master, attributes_of, carried}
+use Rattle.rifsc.specs.Peripherals.{exists, filter_of, grants}
 use Rattle.rifsc.specs.Port as rifsc
 use Rattle.iac.specs.Port as iac
 use Rattle.risaf.specs.Guards.{shape_of}
-use Rattle.risaf.specs.Memory.{memoryStepped}
+use Rattle.risaf.specs.Memory.{memory_stepped}
 use Rattle.risaf.specs.Port as risaf
-use Rattle.device.specs.State.{State, guard_of, withRifsc, withIac, withGuard, flagged, resetState}
+use Rattle.device.specs.State.{State, guard_of, with_rifsc, with_iac, with_guard, flagged, reset_state}
 use Rattle.device.specs.declared.event.Block.{Block}
 use Rattle.device.specs.declared.event.Block.TheVariants.{Rifsc, Iac, Risaf}
 use Rattle.device.specs.declared.event.Operation.{Operation}
@@ -34,23 +34,23 @@ settled a i s next = record { answer = a; next = left a s next (flagged i next) 
 
 -- ---- a register access; refused, it raises 158 (RIFSC), 138 (IAC) or the guard's
 
-abbrev pub rifscFlag : Flag
-rifscFlag = record { 0 = 158 }
+abbrev pub rifsc_flag : Flag
+rifsc_flag = record { 0 = 158 }
 
-abbrev pub iacFlag : Flag
-iacFlag = record { 0 = 138 }
+abbrev pub iac_flag : Flag
+iac_flag = record { 0 = 138 }
 
-unfoldable pub registerStep : Block → Request → State → Outcome
-registerStep Rifsc q s =
+unfoldable pub register_step : Block → Request → State → Outcome
+register_step Rifsc q s =
     let o = rifsc.stepped s.rifsc q in
-    settled o.answer rifscFlag s (withRifsc s o.next)
-registerStep Iac q s =
+    settled o.answer rifsc_flag s (with_rifsc s o.next)
+register_step Iac q s =
     let o = iac.stepped s.iac q in
-    settled o.answer iacFlag s (withIac s o.next)
-registerStep (Risaf n) q s =
+    settled o.answer iac_flag s (with_iac s o.next)
+register_step (Risaf n) q s =
     let shape = shape_of n.0 in
     let o = risaf.stepped shape (guard_of s n.0) q in
-    settled o.answer shape.flag s (withGuard s n.0 o.next)
+    settled o.answer shape.flag s (with_guard s n.0 o.next)
 
 -- ---- a peripheral access; refused, it raises the peripheral's index
 
@@ -59,37 +59,37 @@ fetches Read = false
 fetches Write = false
 fetches Fetch = true
 
-abbrev pub peripheralChecks : PeripheralAccess → State → Checks
-peripheralChecks a s =
+abbrev pub peripheral_checks : PeripheralAccess → State → Checks
+peripheral_checks a s =
     record {
       present = exists a.peripheral;
       aligned = true;
       inside = true;
       fetchless = not (fetches a.operation);
       known = true;
-      allowed = grants (filterOf s.rifsc a.peripheral) a.secure a.privileged;
+      allowed = grants (filter_of s.rifsc a.peripheral) a.secure a.privileged;
       direction = true;
       unlocked = true;
     }
 
-unfoldable pub peripheralStep : PeripheralAccess → State → Outcome
-peripheralStep a s = settled (answered (peripheralChecks a s) 0) (record { 0 = a.peripheral.0 }) s s
+unfoldable pub peripheral_step : PeripheralAccess → State → Outcome
+peripheral_step a s = settled (answered (peripheral_checks a s) 0) (record { 0 = a.peripheral.0 }) s s
 
 -- ---- a memory access to guard n; refused, it raises the guard's flag. there: the master is one there is
 
-unfoldable pub memoryStep : Bool → ℕ → ℕ → ℕ → Kind → State → Outcome
-memoryStep there n o width k s =
+unfoldable pub memory_step : Bool → ℕ → ℕ → ℕ → Kind → State → Outcome
+memory_step there n o width k s =
     let shape = shape_of n in
-    let r = memoryStepped (there && shape.there) shape (guard_of s n) o width k in
-    settled r.answer shape.flag s (withGuard s n r.next)
+    let r = memory_stepped (there && shape.there) shape (guard_of s n) o width k in
+    settled r.answer shape.flag s (with_guard s n r.next)
 
 -- ---- any event
 
 unfoldable pub step : Event → State → Outcome
-step Reset s = record { answer = Done 0; next = resetState }
-step (Register a) s = registerStep a.block a.request s
-step (Peripheral a) s = peripheralStep a s
-step (Memory a) s = memoryStep true a.guard.0 a.offset a.width a.kind s
+step Reset s = record { answer = Done 0; next = reset_state }
+step (Register a) s = register_step a.block a.request s
+step (Peripheral a) s = peripheral_step a s
+step (Memory a) s = memory_step true a.guard.0 a.offset a.width a.kind s
 step (Master a) s =
-    let k = carried (attributesOf s.rifsc a.master) a.write in
-    memoryStep (isMaster a.master) a.guard.0 a.offset a.width k s
+    let k = carried (attributes_of s.rifsc a.master) a.write in
+    memory_step (is_master a.master) a.guard.0 a.offset a.width k s

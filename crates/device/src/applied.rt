@@ -1,7 +1,7 @@
 ghost use Rattle.std.specs.Prelude.{◌≡◌, length};
-ghost use Rattle.device.specs.Applied.{appliedAnswer, appliedState, lineAnswer};
-ghost use Rattle.device.specs.Layout.{state_of, stateWords};
-ghost use Rattle.device.specs.Step.{registerStep};
+ghost use Rattle.device.specs.Applied.{applied_answer, applied_state, line_answer};
+ghost use Rattle.device.specs.Layout.{state_of, state_words};
+ghost use Rattle.device.specs.Step.{register_step};
 ghost use Rattle.device.specs.declared.event.Event.TheVariants.{Master, Memory, Peripheral, Register, Reset};
 
 use crate::controller::load_attributes;
@@ -14,9 +14,9 @@ use crate::reset::reset;
 use access::{Answer, Why};
 
 fn access_register(state: &mut [u32], a: RegisterAccess) -> Answer
-    requires { length state.old ≡ stateWords }
-    ensures answer { result ≡ (registerStep a.block a.request (state_of state.old)).answer }
-    ensures next { state_of state.new ≡ (registerStep a.block a.request (state_of state.old)).next }
+    requires { length state.old ≡ state_words }
+    ensures answer { result ≡ (register_step a.block a.request (state_of state.old)).answer }
+    ensures next { state_of state.new ≡ (register_step a.block a.request (state_of state.old)).next }
 {
     let block = a.block;
     let q = a.request;
@@ -30,8 +30,8 @@ fn access_register(state: &mut [u32], a: RegisterAccess) -> Answer
 // ---- each kind of event, for callers that know the kind
 
 pub fn apply_reset(state: &mut [u32]) -> Answer
-    ensures answer { result ≡ appliedAnswer Reset state.old }
-    ensures next { state.new ≡ appliedState Reset state.old }
+    ensures answer { result ≡ applied_answer Reset state.old }
+    ensures next { state.new ≡ applied_state Reset state.old }
 {
     if state.len() != STATE_WORDS {
         return Answer::Rejected(Why::WrongLength);
@@ -41,8 +41,8 @@ pub fn apply_reset(state: &mut [u32]) -> Answer
 }
 
 pub fn apply_register(state: &mut [u32], a: RegisterAccess) -> Answer
-    ensures answer { result ≡ appliedAnswer (Register a) state.old }
-    ensures next { state.new ≡ appliedState (Register a) state.old }
+    ensures answer { result ≡ applied_answer (Register a) state.old }
+    ensures next { state.new ≡ applied_state (Register a) state.old }
 {
     if state.len() != STATE_WORDS {
         return Answer::Rejected(Why::WrongLength);
@@ -51,8 +51,8 @@ pub fn apply_register(state: &mut [u32], a: RegisterAccess) -> Answer
 }
 
 pub fn apply_peripheral(state: &mut [u32], a: PeripheralAccess) -> Answer
-    ensures answer { result ≡ appliedAnswer (Peripheral a) state.old }
-    ensures next { state.new ≡ appliedState (Peripheral a) state.old }
+    ensures answer { result ≡ applied_answer (Peripheral a) state.old }
+    ensures next { state.new ≡ applied_state (Peripheral a) state.old }
 {
     if state.len() != STATE_WORDS {
         return Answer::Rejected(Why::WrongLength);
@@ -61,8 +61,8 @@ pub fn apply_peripheral(state: &mut [u32], a: PeripheralAccess) -> Answer
 }
 
 pub fn apply_memory(state: &mut [u32], a: MemoryAccess) -> Answer
-    ensures answer { result ≡ appliedAnswer (Memory a) state.old }
-    ensures next { state.new ≡ appliedState (Memory a) state.old }
+    ensures answer { result ≡ applied_answer (Memory a) state.old }
+    ensures next { state.new ≡ applied_state (Memory a) state.old }
 {
     if state.len() != STATE_WORDS {
         return Answer::Rejected(Why::WrongLength);
@@ -72,8 +72,8 @@ pub fn apply_memory(state: &mut [u32], a: MemoryAccess) -> Answer
 
 // A memory access by a master: of the kind that its ATTR says.
 pub fn apply_master(state: &mut [u32], a: MasterAccess) -> Answer
-    ensures answer { result ≡ appliedAnswer (Master a) state.old }
-    ensures next { state.new ≡ appliedState (Master a) state.old }
+    ensures answer { result ≡ applied_answer (Master a) state.old }
+    ensures next { state.new ≡ applied_state (Master a) state.old }
 {
     if state.len() != STATE_WORDS {
         return Answer::Rejected(Why::WrongLength);
@@ -87,8 +87,8 @@ pub fn apply_master(state: &mut [u32], a: MasterAccess) -> Answer
 
 // One event, applied to the state in lent memory: its answer is given back, and what it changes is changed there.
 pub fn apply(state: &mut [u32], event: Event) -> Answer
-    ensures answer { result ≡ appliedAnswer event state.old }
-    ensures next { state.new ≡ appliedState event state.old }
+    ensures answer { result ≡ applied_answer event state.old }
+    ensures next { state.new ≡ applied_state event state.old }
 {
     match event {
         Event::Reset => apply_reset(state),
@@ -101,7 +101,7 @@ pub fn apply(state: &mut [u32], event: Event) -> Answer
 
 // The interrupt line, as it is kept: value 1 where it is up.
 pub fn interrupt_line(state: &[u32]) -> Answer
-    ensures { result ≡ lineAnswer state.now }
+    ensures { result ≡ line_answer state.now }
 {
     if state.len() != STATE_WORDS {
         return Answer::Rejected(Why::WrongLength);

@@ -1,10 +1,10 @@
 // The blocks by value, into the state's memory.
 ghost use Rattle.std.specs.Prelude.{◌≡◌, ◌+◌, ◌≤◌, length};
 ghost use Rattle.std.proofs.Math.Seq.{paste};
-ghost use Rattle.words.specs.Six.{bitWords};
+ghost use Rattle.words.specs.Six.{bit_words};
 ghost use Rattle.rifsc.specs.Masters.{masters};
-ghost use Rattle.device.specs.Layout.{state_of, stateWords};
-ghost use Rattle.device.specs.State.{withIac, withRifsc};
+ghost use Rattle.device.specs.Layout.{state_of, state_words};
+ghost use Rattle.device.specs.State.{with_iac, with_rifsc};
 
 use crate::layout::{ATTR, COUNT, CR, IER, ISR, LINE, PRIVCFGR, RCFGLOCKR, RIMC_CR, SECCFGR};
 use iac::Iac;
@@ -23,8 +23,8 @@ pub(crate) fn copy_words(dst: &mut [u32], at: usize, words: &[u32])
 
 // Stores six words from at on.
 fn store_six(state: &mut [u32], at: usize, words: [u32; BIT_WORDS])
-    requires { at + bitWords ≤ length state.old }
-    ensures { (length words ≡ bitWords) × (state.new ≡ paste state.old at words (length words)) }
+    requires { at + bit_words ≤ length state.old }
+    ensures { (length words ≡ bit_words) × (state.new ≡ paste state.old at words (length words)) }
 {
     copy_words(state, at, &words);
 }
@@ -38,8 +38,8 @@ fn store_attr(state: &mut [u32], at: usize, words: [u32; MASTERS])
 }
 
 pub(crate) fn store_rifsc(state: &mut [u32], r: Rifsc)
-    requires { length state.old ≡ stateWords }
-    ensures { state_of state.new ≡ withRifsc (state_of state.old) r }
+    requires { length state.old ≡ state_words }
+    ensures { state_of state.new ≡ with_rifsc (state_of state.old) r }
 {
     let seccfgr = r.seccfgr;
     let privcfgr = r.privcfgr;
@@ -54,8 +54,8 @@ pub(crate) fn store_rifsc(state: &mut [u32], r: Rifsc)
 }
 
 pub(crate) fn store_iac(state: &mut [u32], i: Iac)
-    requires { length state.old ≡ stateWords }
-    ensures { state_of state.new ≡ withIac (state_of state.old) i }
+    requires { length state.old ≡ state_words }
+    ensures { state_of state.new ≡ with_iac (state_of state.old) i }
 {
     let ier = i.ier;
     let isr = i.isr;

@@ -1,10 +1,10 @@
 // The controller in the state's memory: what an access needs of it by value, and the word that it leaves.
 ghost use Rattle.std.specs.Prelude.{◌≡◌, length};
-ghost use Rattle.rifsc.specs.Contents.{isLocked, seen, stored, withStored};
-ghost use Rattle.rifsc.specs.Masters.{attributesOf};
-ghost use Rattle.rifsc.specs.Peripherals.{filterOf};
-ghost use Rattle.device.specs.Layout.{state_of, stateWords};
-ghost use Rattle.device.specs.State.{withRifsc};
+ghost use Rattle.rifsc.specs.Contents.{is_locked, seen, stored, with_stored};
+ghost use Rattle.rifsc.specs.Masters.{attributes_of};
+ghost use Rattle.rifsc.specs.Peripherals.{filter_of};
+ghost use Rattle.device.specs.Layout.{state_of, state_words};
+ghost use Rattle.device.specs.State.{with_rifsc};
 
 use crate::layout::{ATTR, CR, PRIVCFGR, RCFGLOCKR, RIMC_CR, SECCFGR};
 use crate::part_words::{store_in, word_in};
@@ -15,7 +15,7 @@ use words::BIT_WORDS;
 
 // The word stored for a register.
 pub(crate) fn stored(state: &[u32], reg: Register) -> u32
-    requires { length state.now ≡ stateWords }
+    requires { length state.now ≡ state_words }
     ensures { result ≡ stored (state_of state.now).rifsc reg }
 {
     match reg {
@@ -31,8 +31,8 @@ pub(crate) fn stored(state: &[u32], reg: Register) -> u32
 }
 
 fn is_locked(state: &[u32], lock: Lock) -> bool
-    requires { length state.now ≡ stateWords }
-    ensures { result ≡ isLocked (state_of state.now).rifsc lock }
+    requires { length state.now ≡ state_words }
+    ensures { result ≡ is_locked (state_of state.now).rifsc lock }
 {
     match lock {
         Lock::Glock => words::bit_of(state[CR], 0),
@@ -43,7 +43,7 @@ fn is_locked(state: &[u32], lock: Lock) -> bool
 
 // What an access to a register with this row needs.
 pub(crate) fn load_seen(state: &[u32], reg: Register, row: Row) -> Seen
-    requires { length state.now ≡ stateWords }
+    requires { length state.now ≡ state_words }
     ensures { result ≡ seen (state_of state.now).rifsc reg row.lock row.index }
 {
     let lock = row.lock;
@@ -57,8 +57,8 @@ pub(crate) fn load_seen(state: &[u32], reg: Register, row: Row) -> Seen
 
 // Stores a register's word.
 pub(crate) fn store_register(state: &mut [u32], reg: Register, v: u32)
-    requires { length state.old ≡ stateWords }
-    ensures { state_of state.new ≡ withRifsc (state_of state.old) (withStored (state_of state.old).rifsc reg v) }
+    requires { length state.old ≡ state_words }
+    ensures { state_of state.new ≡ with_rifsc (state_of state.old) (with_stored (state_of state.old).rifsc reg v) }
 {
     match reg {
         Register::Cr => state[CR] = v,
@@ -74,8 +74,8 @@ pub(crate) fn store_register(state: &mut [u32], reg: Register, v: u32)
 
 // What the filter holds of a peripheral.
 pub(crate) fn load_filter(state: &[u32], p: PeripheralNumber) -> Filter
-    requires { length state.now ≡ stateWords }
-    ensures { result ≡ filterOf (state_of state.now).rifsc p }
+    requires { length state.now ≡ state_words }
+    ensures { result ≡ filter_of (state_of state.now).rifsc p }
 {
     let x = (p.0 / 32) as usize;
     Filter {
@@ -86,8 +86,8 @@ pub(crate) fn load_filter(state: &[u32], p: PeripheralNumber) -> Filter
 
 // What is held of a master. Master 0 has no guarding peripheral.
 pub(crate) fn load_attributes(state: &[u32], m: MasterNumber) -> Attributes
-    requires { length state.now ≡ stateWords }
-    ensures { result ≡ attributesOf (state_of state.now).rifsc m }
+    requires { length state.now ≡ state_words }
+    ensures { result ≡ attributes_of (state_of state.now).rifsc m }
 {
     let p = m.guarding();
     let x = (p.0 / 32) as usize;

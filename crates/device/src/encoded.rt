@@ -1,8 +1,8 @@
 // Memory accesses whose answer is given as it stands in memory and in C: a number goes back in a register, an Answer through memory.
 ghost use Rattle.std.specs.Prelude.{◌≡◌};
-ghost use Rattle.access.specs.Answer.{encodedOf};
-ghost use Rattle.device.specs.Applied.{appliedAnswer, appliedState};
-ghost use Rattle.device.specs.Encoded.{memoryAsked};
+ghost use Rattle.access.specs.Answer.{encoded_of};
+ghost use Rattle.device.specs.Applied.{applied_answer, applied_state};
+ghost use Rattle.device.specs.Encoded.{memory_asked};
 ghost use Rattle.device.specs.declared.event.Event.TheVariants.{Master};
 
 use crate::applied::apply_memory;
@@ -20,8 +20,8 @@ pub fn memory_encoded(
     width: u32,
     kind: Kind,
 ) -> u64
-    ensures answer { result ≡ encodedOf (appliedAnswer (memoryAsked guard offset width kind) state.old) }
-    ensures next { state.new ≡ appliedState (memoryAsked guard offset width kind) state.old }
+    ensures answer { result ≡ encoded_of (applied_answer (memory_asked guard offset width kind) state.old) }
+    ensures next { state.new ≡ applied_state (memory_asked guard offset width kind) state.old }
 {
     let access = MemoryAccess {
         guard,
@@ -39,8 +39,8 @@ pub fn memory_encoded(
 
 // By a master, which is looked for first: where there is none, neither the guard nor the width can be a better answer.
 pub fn master_encoded(state: &mut [u32], a: MasterAccess) -> u64
-    ensures answer { result ≡ encodedOf (appliedAnswer (Master a) state.old) }
-    ensures next { state.new ≡ appliedState (Master a) state.old }
+    ensures answer { result ≡ encoded_of (applied_answer (Master a) state.old) }
+    ensures next { state.new ≡ applied_state (Master a) state.old }
 {
     if state.len() != STATE_WORDS {
         return Answer::Rejected(Why::WrongLength).encoded();

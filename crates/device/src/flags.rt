@@ -1,12 +1,12 @@
 // The registers of the IAC in the state's memory, and the line and the count that are kept there.
 ghost use Rattle.std.specs.Prelude.{◌≡◌, ◌≤◌, get_or, length};
-ghost use Rattle.iac.specs.Contents.{held_of, stored, withHeld, withWord};
-ghost use Rattle.iac.specs.Held.{added, held, withCount};
+ghost use Rattle.iac.specs.Contents.{held_of, stored, with_held, with_word};
+ghost use Rattle.iac.specs.Held.{added, held, with_count};
 ghost use Rattle.iac.specs.OneWord.{kept};
 ghost use Rattle.iac.specs.Registers.{iisr, row_of};
 ghost use Rattle.iac.specs.declared.registers.Register.TheVariants.{Icr, Ier};
-ghost use Rattle.device.specs.Layout.{state_of, stateWords};
-ghost use Rattle.device.specs.State.{flagged, withIac};
+ghost use Rattle.device.specs.Layout.{state_of, state_words};
+ghost use Rattle.device.specs.State.{flagged, with_iac};
 
 use crate::layout::{COUNT, IER, ISR, LINE};
 use crate::part_words::{store_in, word_in};
@@ -16,7 +16,7 @@ use words::BIT_WORDS;
 
 // The word stored for a register: for ICR the flags that it clears.
 pub(crate) fn load_word(state: &[u32], reg: Register) -> u32
-    requires { length state.now ≡ stateWords }
+    requires { length state.now ≡ state_words }
     ensures { result ≡ stored (state_of state.now).iac reg }
 {
     match reg {
@@ -32,8 +32,8 @@ pub(crate) fn load_word(state: &[u32], reg: Register) -> u32
 
 // Adds the change in the fresh count to the stored one, modulo 256.
 fn recount(state: &mut [u32], before: u32, after: u32)
-    requires { (length state.old ≡ stateWords) × (before ≤ 32) × (after ≤ 32) }
-    ensures { state_of state.new ≡ withIac (state_of state.old) (withHeld (state_of state.old).iac (withCount (held_of (state_of state.old).iac) (added (state_of state.old).iac.count before after))) }
+    requires { (length state.old ≡ state_words) × (before ≤ 32) × (after ≤ 32) }
+    ensures { state_of state.new ≡ with_iac (state_of state.old) (with_held (state_of state.old).iac (with_count (held_of (state_of state.old).iac) (added (state_of state.old).iac.count before after))) }
 {
     let held = Held {
         line: state[LINE],
@@ -46,8 +46,8 @@ fn recount(state: &mut [u32], before: u32, after: u32)
 
 // Keeps both where a word becomes another; other is the other word of its index. Where no named bit changes they are not looked at.
 fn keep(state: &mut [u32], named: u32, other: u32, old: u32, new: u32)
-    requires { length state.old ≡ stateWords }
-    ensures { state_of state.new ≡ withIac (state_of state.old) (withHeld (state_of state.old).iac (kept named other old new (held_of (state_of state.old).iac))) }
+    requires { length state.old ≡ state_words }
+    ensures { state_of state.new ≡ with_iac (state_of state.old) (with_held (state_of state.old).iac (kept named other old new (held_of (state_of state.old).iac))) }
 {
     if words::masked(old, named) != words::masked(new, named) {
         let before = iac::fresh(named, old, other);
@@ -59,8 +59,8 @@ fn keep(state: &mut [u32], named: u32, other: u32, old: u32, new: u32)
 // ---- a word rewritten: old is stored, and named are the bits that are
 
 fn rewrite_ier(state: &mut [u32], x: usize, named: u32, old: u32, new: u32)
-    requires { (length state.old ≡ stateWords) × (named ≡ iisr x) × (old ≡ get_or (state_of state.old).iac.ier x 0) }
-    ensures { state_of state.new ≡ withIac (state_of state.old) (held (state_of state.old).iac (withWord (state_of state.old).iac (Ier x) new)) }
+    requires { (length state.old ≡ state_words) × (named ≡ iisr x) × (old ≡ get_or (state_of state.old).iac.ier x 0) }
+    ensures { state_of state.new ≡ with_iac (state_of state.old) (held (state_of state.old).iac (with_word (state_of state.old).iac (Ier x) new)) }
 {
     store_in(state, IER, BIT_WORDS, x, new);
     let isr = word_in(state, ISR, BIT_WORDS, x);
@@ -68,8 +68,8 @@ fn rewrite_ier(state: &mut [u32], x: usize, named: u32, old: u32, new: u32)
 }
 
 fn rewrite_isr(state: &mut [u32], x: usize, named: u32, old: u32, new: u32)
-    requires { (length state.old ≡ stateWords) × (named ≡ iisr x) × (old ≡ get_or (state_of state.old).iac.isr x 0) }
-    ensures { state_of state.new ≡ withIac (state_of state.old) (held (state_of state.old).iac (withWord (state_of state.old).iac (Icr x) new)) }
+    requires { (length state.old ≡ state_words) × (named ≡ iisr x) × (old ≡ get_or (state_of state.old).iac.isr x 0) }
+    ensures { state_of state.new ≡ with_iac (state_of state.old) (held (state_of state.old).iac (with_word (state_of state.old).iac (Icr x) new)) }
 {
     store_in(state, ISR, BIT_WORDS, x, new);
     let ier = word_in(state, IER, BIT_WORDS, x);
@@ -77,8 +77,8 @@ fn rewrite_isr(state: &mut [u32], x: usize, named: u32, old: u32, new: u32)
 }
 
 pub(crate) fn rewrite(state: &mut [u32], reg: Register, named: u32, old: u32, new: u32)
-    requires { (length state.old ≡ stateWords) × (named ≡ (row_of reg).named) × (old ≡ stored (state_of state.old).iac reg) }
-    ensures { state_of state.new ≡ withIac (state_of state.old) (held (state_of state.old).iac (withWord (state_of state.old).iac reg new)) }
+    requires { (length state.old ≡ state_words) × (named ≡ (row_of reg).named) × (old ≡ stored (state_of state.old).iac reg) }
+    ensures { state_of state.new ≡ with_iac (state_of state.old) (held (state_of state.old).iac (with_word (state_of state.old).iac reg new)) }
 {
     match reg {
         Register::Ier(x) => rewrite_ier(state, x, named, old, new),
@@ -93,7 +93,7 @@ pub(crate) fn rewrite(state: &mut [u32], reg: Register, named: u32, old: u32, ne
 
 // Raises a flag, in the word that has its bit. Where there is no such flag, or it is set already, nothing else is looked at.
 pub(crate) fn raise(state: &mut [u32], flag: Flag)
-    requires { length state.old ≡ stateWords }
+    requires { length state.old ≡ state_words }
     ensures { state_of state.new ≡ flagged flag (state_of state.old) }
 {
     if iac::is_flag(flag) {

@@ -1,11 +1,11 @@
 // The words of one guard in the state's memory, by its place among the guards.
 ghost use Rattle.std.specs.Prelude.{◌≡◌, ◌+◌, ◌*◌, ◌≤◌, ◌<◌, length};
-ghost use Rattle.risaf.specs.Contents.{guardSize, guardWords, withWord};
-ghost use Rattle.risaf.specs.Guards.{guardCount};
-ghost use Rattle.risaf.specs.Memory.{faultsOf, withFaults};
-ghost use Rattle.risaf.specs.Port.{portIn, readAnswer};
-ghost use Rattle.device.specs.Layout.{guardsAt, state_of, stateWords};
-ghost use Rattle.device.specs.State.{guardAt, withGuardAt};
+ghost use Rattle.risaf.specs.Contents.{guard_size, guard_words, with_word};
+ghost use Rattle.risaf.specs.Guards.{guard_count};
+ghost use Rattle.risaf.specs.Memory.{faults_of, with_faults};
+ghost use Rattle.risaf.specs.Port.{port_in, read_answer};
+ghost use Rattle.device.specs.Layout.{guards_at, state_of, state_words};
+ghost use Rattle.device.specs.State.{guard_at, with_guard_at};
 
 use crate::layout::GUARDS;
 use access::{Answer, Request};
@@ -13,16 +13,16 @@ use risaf::{Faults, GUARD_WORDS, IADDR, IAESR, IASR, Port, Row, Shape};
 
 // Where they begin.
 fn guard_start(place: usize) -> usize
-    requires { place < guardCount }
-    ensures { (result ≡ guardsAt + guardSize * place) × (result + guardSize ≤ stateWords) }
+    requires { place < guard_count }
+    ensures { (result ≡ guards_at + guard_size * place) × (result + guard_size ≤ state_words) }
 {
     GUARDS + GUARD_WORDS * place
 }
 
 // What an access to the register with this row needs.
 pub(crate) fn load_port(state: &[u32], place: usize, row: Row) -> Port
-    requires { (length state.now ≡ stateWords) × (place < guardCount) }
-    ensures { result ≡ portIn (guardWords (guardAt (state_of state.now) place)) row }
+    requires { (length state.now ≡ state_words) × (place < guard_count) }
+    ensures { result ≡ port_in (guard_words (guard_at (state_of state.now) place)) row }
 {
     let start = guard_start(place);
     let end = start + GUARD_WORDS;
@@ -31,8 +31,8 @@ pub(crate) fn load_port(state: &[u32], place: usize, row: Row) -> Port
 
 // The answer to a read of a register.
 pub(crate) fn read_register(state: &[u32], shape: Shape, q: Request) -> Answer
-    requires { (length state.now ≡ stateWords) × (shape.place < guardCount) }
-    ensures { result ≡ readAnswer shape (guardWords (guardAt (state_of state.now) shape.place)) q }
+    requires { (length state.now ≡ state_words) × (shape.place < guard_count) }
+    ensures { result ≡ read_answer shape (guard_words (guard_at (state_of state.now) shape.place)) q }
 {
     let start = guard_start(shape.place);
     let end = start + GUARD_WORDS;
@@ -41,16 +41,16 @@ pub(crate) fn read_register(state: &[u32], shape: Shape, q: Request) -> Answer
 
 // Stores the guard's word i.
 pub(crate) fn store_word(state: &mut [u32], place: usize, i: usize, v: u32)
-    requires { (length state.old ≡ stateWords) × (place < guardCount) × (i < guardSize) }
-    ensures { state_of state.new ≡ withGuardAt (state_of state.old) place (withWord (guardAt (state_of state.old) place) i v) }
+    requires { (length state.old ≡ state_words) × (place < guard_count) × (i < guard_size) }
+    ensures { state_of state.new ≡ with_guard_at (state_of state.old) place (with_word (guard_at (state_of state.old) place) i v) }
 {
     state[guard_start(place) + i] = v;
 }
 
 // The fault registers.
 pub(crate) fn load_faults(state: &[u32], place: usize) -> Faults
-    requires { (length state.now ≡ stateWords) × (place < guardCount) }
-    ensures { result ≡ faultsOf (guardAt (state_of state.now) place) }
+    requires { (length state.now ≡ state_words) × (place < guard_count) }
+    ensures { result ≡ faults_of (guard_at (state_of state.now) place) }
 {
     let start = guard_start(place);
     Faults {
@@ -61,8 +61,8 @@ pub(crate) fn load_faults(state: &[u32], place: usize) -> Faults
 }
 
 pub(crate) fn store_faults(state: &mut [u32], place: usize, faults: Faults)
-    requires { (length state.old ≡ stateWords) × (place < guardCount) }
-    ensures { state_of state.new ≡ withGuardAt (state_of state.old) place (withFaults (guardAt (state_of state.old) place) faults) }
+    requires { (length state.old ≡ state_words) × (place < guard_count) }
+    ensures { state_of state.new ≡ with_guard_at (state_of state.old) place (with_faults (guard_at (state_of state.old) place) faults) }
 {
     store_word(state, place, IASR, faults.iasr);
     store_word(state, place, IAESR, faults.iaesr);

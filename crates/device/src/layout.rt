@@ -1,6 +1,6 @@
 // The state's memory: every part of it, one after the other, each behind the part before. specs/Layout.antt has the same as sizes.
 ghost use Rattle.std.specs.Prelude.{◌≡◌};
-ghost use Rattle.device.specs.Layout.{regionsIn};
+ghost use Rattle.device.specs.Layout.{regions_in};
 
 use rifsc::MASTERS;
 use risaf::{GUARD_COUNT, GUARD_WORDS, HEAD_WORDS, REGIONS_WORDS};
@@ -38,7 +38,7 @@ pub const STATE_WORDS: usize = GUARDS + GUARD_COUNT * GUARD_WORDS;
 // The words of the regions of the guard at a place among the guards, as a part of the state's memory. An empty part where there is no
 // such guard, or the memory is of the wrong length.
 pub fn region_words(state: &[u32], place: usize) -> &[u32]
-    ensures { result.now ≡ regionsIn state.now place }
+    ensures { result.now ≡ regions_in state.now place }
 {
     if state.len() != STATE_WORDS {
         return &state[..0];

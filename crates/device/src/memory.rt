@@ -1,6 +1,6 @@
 ghost use Rattle.std.specs.Prelude.{◌≡◌, length};
-ghost use Rattle.device.specs.Layout.{state_of, stateWords};
-ghost use Rattle.device.specs.Step.{memoryStep};
+ghost use Rattle.device.specs.Layout.{state_of, state_words};
+ghost use Rattle.device.specs.Step.{memory_step};
 
 use crate::flags::raise;
 use crate::guards::{load_faults, store_faults};
@@ -18,9 +18,9 @@ pub(crate) fn access_memory(
     width: u32,
     k: Kind,
 ) -> Answer
-    requires { length state.old ≡ stateWords }
-    ensures answer { result ≡ (memoryStep there guard.0 o width k (state_of state.old)).answer }
-    ensures next { state_of state.new ≡ (memoryStep there guard.0 o width k (state_of state.old)).next }
+    requires { length state.old ≡ state_words }
+    ensures answer { result ≡ (memory_step there guard.0 o width k (state_of state.old)).answer }
+    ensures next { state_of state.new ≡ (memory_step there guard.0 o width k (state_of state.old)).next }
 {
     let shape = guard.shape();
     let checked = memory_checked(there & shape.there, shape, o, width, k);

@@ -1,6 +1,6 @@
 ghost use Rattle.std.specs.Prelude.{◌≡◌, length};
-ghost use Rattle.device.specs.Layout.{state_of, stateWords};
-ghost use Rattle.device.specs.Step.{fetches, peripheralStep};
+ghost use Rattle.device.specs.Layout.{state_of, state_words};
+ghost use Rattle.device.specs.Step.{fetches, peripheral_step};
 
 use crate::controller::load_filter;
 use crate::event::{Operation, PeripheralAccess};
@@ -19,9 +19,9 @@ fn is_fetch(operation: Operation) -> bool
 
 // A peripheral access.
 pub(crate) fn access_peripheral(state: &mut [u32], a: PeripheralAccess) -> Answer
-    requires { length state.old ≡ stateWords }
-    ensures answer { result ≡ (peripheralStep a (state_of state.old)).answer }
-    ensures next { state_of state.new ≡ (peripheralStep a (state_of state.old)).next }
+    requires { length state.old ≡ state_words }
+    ensures answer { result ≡ (peripheral_step a (state_of state.old)).answer }
+    ensures next { state_of state.new ≡ (peripheral_step a (state_of state.old)).next }
 {
     let p = a.peripheral;
     let operation = a.operation;

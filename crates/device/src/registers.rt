@@ -1,6 +1,6 @@
 ghost use Rattle.std.specs.Prelude.{false, ◌≡◌, length};
-ghost use Rattle.device.specs.Layout.{state_of, stateWords};
-ghost use Rattle.device.specs.Step.{registerStep};
+ghost use Rattle.device.specs.Layout.{state_of, state_words};
+ghost use Rattle.device.specs.Step.{register_step};
 ghost use Rattle.device.specs.declared.event.Block.TheVariants.{Iac, Rifsc, Risaf};
 
 use crate::controller::{load_seen, store_register, stored};
@@ -17,9 +17,9 @@ const IAC_FLAG: Flag = Flag(138);
 
 // A read of the controller's registers, which leaves the state.
 fn read_rifsc(state: &[u32], q: Request) -> Answer
-    requires { (length state.now ≡ stateWords) × (q.write ≡ false) }
-    ensures answer { result ≡ (registerStep Rifsc q (state_of state.now)).answer }
-    ensures next { state_of state.now ≡ (registerStep Rifsc q (state_of state.now)).next }
+    requires { (length state.now ≡ state_words) × (q.write ≡ false) }
+    ensures answer { result ≡ (register_step Rifsc q (state_of state.now)).answer }
+    ensures next { state_of state.now ≡ (register_step Rifsc q (state_of state.now)).next }
 {
     let reg = rifsc::register_at(q.offset);
     reg.row().read(stored(state, reg), q.offset)
@@ -27,9 +27,9 @@ fn read_rifsc(state: &[u32], q: Request) -> Answer
 
 // A register access to the controller: what it needs is taken by value, and one word is stored.
 pub(crate) fn access_rifsc(state: &mut [u32], q: Request) -> Answer
-    requires { length state.old ≡ stateWords }
-    ensures answer { result ≡ (registerStep Rifsc q (state_of state.old)).answer }
-    ensures next { state_of state.new ≡ (registerStep Rifsc q (state_of state.old)).next }
+    requires { length state.old ≡ state_words }
+    ensures answer { result ≡ (register_step Rifsc q (state_of state.old)).answer }
+    ensures next { state_of state.new ≡ (register_step Rifsc q (state_of state.old)).next }
 {
     if q.offset % 4 != 0 {
         return Answer::Rejected(Why::Misaligned);
@@ -52,9 +52,9 @@ pub(crate) fn access_rifsc(state: &mut [u32], q: Request) -> Answer
 
 // A read of the registers of the IAC: refused, it raises a flag.
 fn read_iac(state: &mut [u32], q: Request) -> Answer
-    requires { (length state.old ≡ stateWords) × (q.write ≡ false) }
-    ensures answer { result ≡ (registerStep Iac q (state_of state.old)).answer }
-    ensures next { state_of state.new ≡ (registerStep Iac q (state_of state.old)).next }
+    requires { (length state.old ≡ state_words) × (q.write ≡ false) }
+    ensures answer { result ≡ (register_step Iac q (state_of state.old)).answer }
+    ensures next { state_of state.new ≡ (register_step Iac q (state_of state.old)).next }
 {
     let reg = iac::register_at(q.offset);
     let answer = reg.row().read(load_word(state, reg), q);
@@ -66,9 +66,9 @@ fn read_iac(state: &mut [u32], q: Request) -> Answer
 
 // A register access to the IAC.
 pub(crate) fn access_iac(state: &mut [u32], q: Request) -> Answer
-    requires { length state.old ≡ stateWords }
-    ensures answer { result ≡ (registerStep Iac q (state_of state.old)).answer }
-    ensures next { state_of state.new ≡ (registerStep Iac q (state_of state.old)).next }
+    requires { length state.old ≡ state_words }
+    ensures answer { result ≡ (register_step Iac q (state_of state.old)).answer }
+    ensures next { state_of state.new ≡ (register_step Iac q (state_of state.old)).next }
 {
     if q.offset % 4 != 0 {
         return Answer::Rejected(Why::Misaligned);
@@ -94,9 +94,9 @@ pub(crate) fn access_iac(state: &mut [u32], q: Request) -> Answer
 
 // A read of a guard's registers: refused, it sets CAEF and raises the guard's flag.
 fn read_guard(state: &mut [u32], guard: GuardNumber, q: Request) -> Answer
-    requires { (length state.old ≡ stateWords) × (q.write ≡ false) }
-    ensures answer { result ≡ (registerStep (Risaf guard) q (state_of state.old)).answer }
-    ensures next { state_of state.new ≡ (registerStep (Risaf guard) q (state_of state.old)).next }
+    requires { (length state.old ≡ state_words) × (q.write ≡ false) }
+    ensures answer { result ≡ (register_step (Risaf guard) q (state_of state.old)).answer }
+    ensures next { state_of state.new ≡ (register_step (Risaf guard) q (state_of state.old)).next }
 {
     let shape = guard.shape();
     let answer = read_register(state, shape, q);
@@ -116,9 +116,9 @@ fn read_guard(state: &mut [u32], guard: GuardNumber, q: Request) -> Answer
 // A register access to a guard: what it needs of the guard is taken by value, and one word of it is stored. Where there is no register
 // nothing is needed.
 pub(crate) fn access_guard(state: &mut [u32], guard: GuardNumber, q: Request) -> Answer
-    requires { length state.old ≡ stateWords }
-    ensures answer { result ≡ (registerStep (Risaf guard) q (state_of state.old)).answer }
-    ensures next { state_of state.new ≡ (registerStep (Risaf guard) q (state_of state.old)).next }
+    requires { length state.old ≡ state_words }
+    ensures answer { result ≡ (register_step (Risaf guard) q (state_of state.old)).answer }
+    ensures next { state_of state.new ≡ (register_step (Risaf guard) q (state_of state.old)).next }
 {
     if !q.write {
         return read_guard(state, guard, q);

@@ -11,7 +11,7 @@ use Rattle.spans.specs.Map.{Tiles}
 use Rattle.spans.specs.Rows.{start, end}
 use Rattle.spans.proofs.Memory.{three}
 use Rattle.spans.proofs.Order.{below-or-at}
-use Rattle.diff.specs.Lent.{tilesFrom, tiles}
+use Rattle.diff.specs.Lent.{tiles_from, tiles}
 use Rattle.diff.proofs.Tiled.{row-tiles, tiles-row}
 
 -- the rows of m from row j on, of n in all, go on from the offset at to the end of the window
@@ -26,8 +26,8 @@ module _ (m : List ℕ) (w n : ℕ) (l : length m ≡ 3 * n) where
   no_more : (j : ℕ) → j ≡ n → drop (3 * j) m ≡ []
   no_more j e = let h : length m ≤ 3 * j = omega arith in drop_of_length-le m h
 
-  tiled-rest : (d j at : ℕ) → j + d ≡ n → tilesFrom at w (drop (3 * j) m) ≡ true → Rest at w j n m
-  unfolding tilesFrom
+  tiled-rest : (d j at : ℕ) → j + d ≡ n → tiles_from at w (drop (3 * j) m) ≡ true → Rest at w j n m
+  unfolding tiles_from
   tiled-rest zero j at e t =
       let f : j ≡ n = omega arith in
       let h : at ≡ w = eqb-true at w (rw (no_more j f) at t) in
@@ -55,13 +55,13 @@ module _ (m : List ℕ) (w n : ℕ) (l : length m ≡ 3 * n) where
         order = λ k g u. ⊎_elim (λ p. R.order k (omega arith) u) (λ p. rw (← p) r.1) (below-or-at j k g);
       }
 
-  rest-tiled : (d j at : ℕ) → j + d ≡ n → Rest at w j n m → tilesFrom at w (drop (3 * j) m) ≡ true
-  unfolding tilesFrom
+  rest-tiled : (d j at : ℕ) → j + d ≡ n → Rest at w j n m → tiles_from at w (drop (3 * j) m) ≡ true
+  unfolding tiles_from
   rest-tiled zero j at e R = rw (no_more j (omega arith)) (eq-eqb at w (R.none (omega arith)))
   rest-tiled (suc d) j at e R =
       let i : 3 * j + 3 ≡ 3 * (j + 1) = omega arith in
       let h : j < n = omega arith in
-      let on : tilesFrom (end m j + 1) w (drop (3 * (j + 1)) m) ≡ true =
+      let on : tiles_from (end m j + 1) w (drop (3 * (j + 1)) m) ≡ true =
       rest-tiled d (j + 1) (end m j + 1) (omega arith)
       (record {
         none = λ g. let q : n - 1 ≡ j = omega arith in rw q at (R.last h);
@@ -72,8 +72,8 @@ module _ (m : List ℕ) (w n : ℕ) (l : length m ≡ 3 * n) where
       }) in
       rw (three m (3 * j) (omega arith), eq-eqb (start m j) at (R.first h), le-leb (start m j) (end m j) (R.order j (omega arith) h), i) on
 
-whole-rows : (at w : ℕ) (m : List ℕ) → tilesFrom at w m ≡ true → length m % 3 ≡ 0
-unfolding tilesFrom
+whole-rows : (at w : ℕ) (m : List ℕ) → tiles_from at w m ≡ true → length m % 3 ≡ 0
+unfolding tiles_from
 whole-rows at w [] t = refl
 whole-rows at w (s ∷ []) t = absurd (false≢true t)
 whole-rows at w (s ∷ e ∷ []) t = absurd (false≢true t)

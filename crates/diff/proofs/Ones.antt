@@ -9,7 +9,7 @@ use lib.Pow.{pow_pos}
 use Rattle.words.specs.Bit.{bit, one}
 use Rattle.words.proofs.Laws.{one_bit, bit-mod}
 use Rattle.words.proofs.Ops.{bit-xor}
-use Rattle.diff.specs.Bits.{differsAt, bitsApart, differing, rightsBits}
+use Rattle.diff.specs.Bits.{differs_at, bits_apart, differing, rights_bits}
 
 -- a digit counts as itself
 digit : (d : ℕ) → d < 2 → ones d ≡ d
@@ -19,8 +19,8 @@ digit (suc zero) h = refl
 digit (suc (suc d)) h = absurd (omega arith)
 
 -- the ones of a word of n bits that has a one where a and b differ
-counted : (n c a b : ℕ) → c < 2 ^ n → ((k : ℕ) → k < n → bit c k ≡ differsAt a b k) → ones c ≡ bitsApart n a b
-unfolding bitsApart
+counted : (n c a b : ℕ) → c < 2 ^ n → ((k : ℕ) → k < n → bit c k ≡ differs_at a b k) → ones c ≡ bits_apart n a b
+unfolding bits_apart
 counted zero c a b h is = let e : c ≡ 0 = omega arith in rw e (digit 0 (omega arith))
 counted (suc n) c a b h is =
     let top : c / 2 ^ n < 2 = (div-lt_iff_lt-mul (pow_pos n)).1 (omega arith) in
@@ -31,6 +31,6 @@ counted (suc n) c a b h is =
     (digit (c / 2 ^ n) top ∙ sym (mod-eq_of_lt top) ∙ sym (one_bit c n) ∙ ap one (is n (omega arith)))
     (counted n (c % 2 ^ n) a b low (λ k l. bit-mod n c k l ∙ is k (omega arith)))
 
-pub ones-differ : (a b : ℕ) → a < 2 ^ rightsBits → b < 2 ^ rightsBits → ones (bit_xor a b) ≡ differing a b
+pub ones-differ : (a b : ℕ) → a < 2 ^ rights_bits → b < 2 ^ rights_bits → ones (bit_xor a b) ≡ differing a b
 unfolding differing
-ones-differ a b h g = counted rightsBits (bit_xor a b) a b (xor_lt rightsBits a b h g) (λ k _. bit-xor a b k)
+ones-differ a b h g = counted rights_bits (bit_xor a b) a b (xor_lt rights_bits a b h g) (λ k _. bit-xor a b k)

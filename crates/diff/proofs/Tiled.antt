@@ -9,20 +9,20 @@ use lib.Dec.{leb, ltb, eqb}
 use lib.ListN.{length, get_or, drop, length-drop}
 use borrow.Author.Tests.{eq-eqb, ne_eqb, le-leb, lt-leb, le-ltb, eqb-true, leb-true, ltb-false, leb-false, not-false}
 use Rattle.spans.proofs.Memory.{three}
-use Rattle.diff.specs.Lent.{tilesFrom}
+use Rattle.diff.specs.Lent.{tiles_from}
 use Rattle.diff.proofs.Tests.{both, neither, true-or-false}
 
 -- a row of rows that go on one another
-pub row-tiles : (at w s e q : ℕ) (rest : List ℕ) → tilesFrom at w (s ∷ e ∷ q ∷ rest) ≡ true
-    → (s ≡ at) × (s ≤ e) × (tilesFrom (e + 1) w rest ≡ true)
-unfolding tilesFrom
+pub row-tiles : (at w s e q : ℕ) (rest : List ℕ) → tiles_from at w (s ∷ e ∷ q ∷ rest) ≡ true
+    → (s ≡ at) × (s ≤ e) × (tiles_from (e + 1) w rest ≡ true)
+unfolding tiles_from
 row-tiles at w s e q rest h =
-    let p = both (eqb s at && leb s e) (tilesFrom (e + 1) w rest) h in
+    let p = both (eqb s at && leb s e) (tiles_from (e + 1) w rest) h in
     let r = both (eqb s at) (leb s e) p.0 in
     (eqb-true s at r.0, leb-true s e r.1, p.1)
 
-pub tiles-le : (at w : ℕ) (l : List ℕ) → tilesFrom at w l ≡ true → at ≤ w
-unfolding tilesFrom
+pub tiles-le : (at w : ℕ) (l : List ℕ) → tiles_from at w l ≡ true → at ≤ w
+unfolding tiles_from
 tiles-le at w [] h = let e : at ≡ w = eqb-true at w h in omega arith
 tiles-le at w (s ∷ []) h = absurd (false≢true h)
 tiles-le at w (s ∷ e ∷ []) h = absurd (false≢true h)
@@ -31,8 +31,8 @@ tiles-le at w (s ∷ e ∷ q ∷ rest) h =
     omega (arith, r.0, r.1, tiles-le (e + 1) w rest r.2)
 
 -- before the end of the window there is a row
-some-row : (at w : ℕ) (l : List ℕ) → tilesFrom at w l ≡ true → at < w → 3 ≤ length l
-unfolding tilesFrom
+some-row : (at w : ℕ) (l : List ℕ) → tiles_from at w l ≡ true → at < w → 3 ≤ length l
+unfolding tiles_from
 some-row at w [] h k = let e : at ≡ w = eqb-true at w h in absurd (omega arith)
 some-row at w (s ∷ []) h k = absurd (false≢true h)
 some-row at w (s ∷ e ∷ []) h k = absurd (false≢true h)
@@ -41,16 +41,16 @@ some-row at w (s ∷ e ∷ q ∷ rest) h k = omega arith
 -- ---- the row at i of the numbers m
 
 module _ (m : List ℕ) (w at i : ℕ) where
-  pub tiles-held : tilesFrom at w (drop i m) ≡ true → at < w → i + 3 ≤ length m
+  pub tiles-held : tiles_from at w (drop i m) ≡ true → at < w → i + 3 ≤ length m
   tiles-held h k = omega (arith, some-row at w (drop i m) h k, length-drop i m)
 
-  pub tiles-row : i + 3 ≤ length m → tilesFrom at w (drop i m) ≡ true
-      → (get_or m i 0 ≡ at) × (get_or m i 0 ≤ get_or m (i + 1) 0) × (tilesFrom (get_or m (i + 1) 0 + 1) w (drop (i + 3) m) ≡ true)
+  pub tiles-row : i + 3 ≤ length m → tiles_from at w (drop i m) ≡ true
+      → (get_or m i 0 ≡ at) × (get_or m i 0 ≤ get_or m (i + 1) 0) × (tiles_from (get_or m (i + 1) 0 + 1) w (drop (i + 3) m) ≡ true)
   tiles-row h k = row-tiles at w _ _ (get_or m (i + 2) 0) _ (rw (three m i h) at k)
 
   -- the code's tests of a row fail
   pub tiles-broken : i + 3 ≤ length m
-      → (not (eqb (get_or m i 0) at) || ltb (get_or m (i + 1) 0) at || leb w (get_or m (i + 1) 0)) ≡ true → tilesFrom at w (drop i m) ≡ false
+      → (not (eqb (get_or m i 0) at) || ltb (get_or m (i + 1) 0) at || leb w (get_or m (i + 1) 0)) ≡ true → tiles_from at w (drop i m) ≡ false
   tiles-broken h k =
       ⊎_elim
       (λ t.
@@ -65,13 +65,13 @@ module _ (m : List ℕ) (w at i : ℕ) where
         lt-leb w (get_or m (i + 1) 0) (omega (arith, l)),
       ))))
       (λ t. t)
-      (true-or-false (tilesFrom at w (drop i m)))
+      (true-or-false (tiles_from at w (drop i m)))
 
   -- they are passed
   pub tiles-on : i + 3 ≤ length m
       → (not (eqb (get_or m i 0) at) || ltb (get_or m (i + 1) 0) at || leb w (get_or m (i + 1) 0)) ≡ false
-      → (get_or m (i + 1) 0 < w) × (tilesFrom (get_or m (i + 1) 0 + 1) w (drop (i + 3) m) ≡ tilesFrom at w (drop i m))
-  unfolding tilesFrom
+      → (get_or m (i + 1) 0 < w) × (tiles_from (get_or m (i + 1) 0 + 1) w (drop (i + 3) m) ≡ tiles_from at w (drop i m))
+  unfolding tiles_from
   tiles-on h k =
       let p = neither (not (eqb (get_or m i 0) at) || ltb (get_or m (i + 1) 0) at) (leb w (get_or m (i + 1) 0)) k in
       let q = neither (not (eqb (get_or m i 0) at)) (ltb (get_or m (i + 1) 0) at) p.0 in
@@ -82,13 +82,13 @@ module _ (m : List ℕ) (w at i : ℕ) where
       )
 
   -- no row is left
-  pub tiles-end : i ≤ length m → length m - i < 3 → (eqb i (length m) && eqb at w) ≡ tilesFrom at w (drop i m)
-  unfolding tilesFrom
+  pub tiles-end : i ≤ length m → length m - i < 3 → (eqb i (length m) && eqb at w) ≡ tiles_from at w (drop i m)
+  unfolding tiles_from
   tiles-end h k =
       let l : length (drop i m) ≡ length m - i = length-drop i m in
       by (drop i m) l
     where
-      by : (r : List ℕ) → length r ≡ length m - i → (eqb i (length m) && eqb at w) ≡ tilesFrom at w r
+      by : (r : List ℕ) → length r ≡ length m - i → (eqb i (length m) && eqb at w) ≡ tiles_from at w r
       by [] l = rw (eq-eqb i (length m) (omega arith))
       by (x ∷ []) l = rw (ne_eqb i (length m) (λ e. omega arith))
       by (x ∷ y ∷ []) l = rw (ne_eqb i (length m) (λ e. omega arith))

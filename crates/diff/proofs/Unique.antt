@@ -6,7 +6,7 @@ use mathlib.Core.Bool.{true, false, true≢false}
 use mathlib.Core.Logic.{⊎_elim, ◌≢◌}
 use native.Mathlib.Omega.{arith}
 use Rattle.spans.proofs.Order.{below_or, below-or-at, equal-or}
-use Rattle.diff.specs.Diff.{goesOn, behind, diffOf}
+use Rattle.diff.specs.Diff.{goes_on, behind, diff_of}
 use Rattle.diff.specs.Rows.{DiffRows, none, more}
 use Rattle.diff.proofs.Joined.{join-equal, join_apart}
 use Rattle.diff.proofs.Tests.{goes, gone, true-or-false}
@@ -14,7 +14,7 @@ use Rattle.diff.proofs.Tests.{goes, gone, true-or-false}
 -- a span from s of the words a and b does not go on the last row, if there is one
 unfoldable pub Apart : DiffRows → ℕ → ℕ → ℕ → Type 0
 Apart none s a b = Unit {0}
-Apart (more rs s₀ e₀ a₀ b₀) s a b = goesOn e₀ a₀ b₀ s a b ≡ false
+Apart (more rs s₀ e₀ a₀ b₀) s a b = goes_on e₀ a₀ b₀ s a b ≡ false
 
 -- a row from s to e of the words a and b, behind which nothing differs below w
 pub record IsRow (f g : ℕ → ℕ) (w s e a b : ℕ) : Type 0 where
@@ -83,13 +83,13 @@ module _ (f g : ℕ → ℕ) where
         d.2,
       ))
       (λ t. rw t (own w h, t, d))
-      (true-or-false (goesOn e a b w (f w) (g w)))
+      (true-or-false (goes_on e a b w (f w) (g w)))
 
-  pub diff-rows : (w : ℕ) → AreRows f g w (diffOf f g w)
-  unfolding diffOf AreRows
+  pub diff-rows : (w : ℕ) → AreRows f g w (diff_of f g w)
+  unfolding diff_of AreRows
   diff-rows zero = λ x h. absurd (omega arith)
   diff-rows (suc w) =
-      let rs = diffOf f g w in
+      let rs = diff_of f g w in
       ⊎_elim
       (λ h. rw (join-equal rs w w (f w) (g w) h) (longer rs w h (diff-rows w)))
       (λ h. rw (join_apart rs w w (f w) (g w) h) (one_more rs w h (diff-rows w)))

@@ -2,11 +2,11 @@
 -- size, so that the offsets are those below w.
 use Rattle.std.specs.Prelude.{Bool, ◌&&◌, cond, List, ◌≢◌, ◌≡◌, ℕ, zero, suc, ◌+◌, ◌*◌, ◌≤◌, ◌<◌, eqb, length}
 use Rattle.diff.specs.Bits.{differing}
-use Rattle.diff.specs.Rows.{DiffRows, none, more, diffRowNumbers, start, end, old, new, count, Enclosed}
+use Rattle.diff.specs.Rows.{DiffRows, none, more, diff_row_numbers, start, end, old, new, count, Enclosed}
 
 -- The first n rows of the numbers m are what differs between f and g below w
 pub record IsDiff (f g : ℕ → ℕ) (w n : ℕ) (m : List ℕ) : Type 0 where
-  pub held : diffRowNumbers * n ≤ length m
+  pub held : diff_row_numbers * n ≤ length m
   -- "in rising order": no end is below its start, and a row starts behind the one before it
   pub order : (k : ℕ) → k < n → start m k ≤ end m k
   pub rising : (k : ℕ) → k + 1 < n → end m k < start m (k + 1)
@@ -23,20 +23,20 @@ pub record IsDiff (f g : ℕ → ℕ) (w n : ℕ) (m : List ℕ) : Type 0 where
   pub counts : (k : ℕ) → k < n → count m k ≡ differing (old m k) (new m k)
 
 -- a span from s of the words a and b goes on a row that ends at e₀ and has the words a₀ and b₀
-abbrev pub goesOn : ℕ → ℕ → ℕ → ℕ → ℕ → ℕ → Bool
-goesOn e₀ a₀ b₀ s a b = eqb (e₀ + 1) s && eqb a₀ a && eqb b₀ b
+abbrev pub goes_on : ℕ → ℕ → ℕ → ℕ → ℕ → ℕ → Bool
+goes_on e₀ a₀ b₀ s a b = eqb (e₀ + 1) s && eqb a₀ a && eqb b₀ b
 
 -- the rows rs with one more span behind them, of which the words differ: the last row goes on to the span's end, or the span is a row of its own
 unfoldable pub behind : DiffRows → ℕ → ℕ → ℕ → ℕ → DiffRows
 behind none s e a b = more none s e a b
 behind (more rs s₀ e₀ a₀ b₀) s e a b =
-    cond (goesOn e₀ a₀ b₀ s a b) (more rs s₀ e a₀ b₀) (more (more rs s₀ e₀ a₀ b₀) s e a b)
+    cond (goes_on e₀ a₀ b₀ s a b) (more rs s₀ e a₀ b₀) (more (more rs s₀ e₀ a₀ b₀) s e a b)
 
 -- the same of any span: where its words are equal nothing differs, and it is left out
-unfoldable pub withSpan : DiffRows → ℕ → ℕ → ℕ → ℕ → DiffRows
-withSpan rs s e a b = cond (eqb a b) rs (behind rs s e a b)
+unfoldable pub with_span : DiffRows → ℕ → ℕ → ℕ → ℕ → DiffRows
+with_span rs s e a b = cond (eqb a b) rs (behind rs s e a b)
 
 -- what differs between f and g below w: every offset in turn as a span of its own, joined to those before it
-unfoldable pub diffOf : (ℕ → ℕ) → (ℕ → ℕ) → ℕ → DiffRows
-diffOf f g zero = none
-diffOf f g (suc x) = withSpan (diffOf f g x) x x (f x) (g x)
+unfoldable pub diff_of : (ℕ → ℕ) → (ℕ → ℕ) → ℕ → DiffRows
+diff_of f g zero = none
+diff_of f g (suc x) = with_span (diff_of f g x) x x (f x) (g x)

@@ -7,38 +7,38 @@ pub data DiffRows : Type 0 where
   none : DiffRows
   more : DiffRows → ℕ → ℕ → ℕ → ℕ → DiffRows
 
-abbrev pub diffRowNumbers : ℕ
-diffRowNumbers = 5
+abbrev pub diff_row_numbers : ℕ
+diff_row_numbers = 5
 
 -- the rows as numbers in memory
-unfoldable pub flatDiff : DiffRows → List ℕ
-flatDiff none = []
-flatDiff (more rs s e a b) = flatDiff rs ++ s ∷ e ∷ a ∷ b ∷ differing a b ∷ []
+unfoldable pub flat_diff : DiffRows → List ℕ
+flat_diff none = []
+flat_diff (more rs s e a b) = flat_diff rs ++ s ∷ e ∷ a ∷ b ∷ differing a b ∷ []
 
 -- how many rows
-unfoldable pub sizeDiff : DiffRows → ℕ
-sizeDiff none = zero
-sizeDiff (more rs s e a b) = suc (sizeDiff rs)
+unfoldable pub size_diff : DiffRows → ℕ
+size_diff none = zero
+size_diff (more rs s e a b) = suc (size_diff rs)
 
 -- the numbers l with the rows rs over their front, the rest unchanged
-unfoldable pub filledDiff : DiffRows → List ℕ → List ℕ
-filledDiff rs l = flatDiff rs ++ drop (diffRowNumbers * sizeDiff rs) l
+unfoldable pub filled_diff : DiffRows → List ℕ → List ℕ
+filled_diff rs l = flat_diff rs ++ drop (diff_row_numbers * size_diff rs) l
 
 -- start, end, old, new and count of row k of the numbers m, counted from 0
 abbrev pub start : List ℕ → ℕ → ℕ
-start m k = get_or m (diffRowNumbers * k) 0
+start m k = get_or m (diff_row_numbers * k) 0
 
 abbrev pub end : List ℕ → ℕ → ℕ
-end m k = get_or m (diffRowNumbers * k + 1) 0
+end m k = get_or m (diff_row_numbers * k + 1) 0
 
 abbrev pub old : List ℕ → ℕ → ℕ
-old m k = get_or m (diffRowNumbers * k + 2) 0
+old m k = get_or m (diff_row_numbers * k + 2) 0
 
 abbrev pub new : List ℕ → ℕ → ℕ
-new m k = get_or m (diffRowNumbers * k + 3) 0
+new m k = get_or m (diff_row_numbers * k + 3) 0
 
 abbrev pub count : List ℕ → ℕ → ℕ
-count m k = get_or m (diffRowNumbers * k + 4) 0
+count m k = get_or m (diff_row_numbers * k + 4) 0
 
 -- one of the first n rows of the numbers m encloses x
 pub record Enclosed (n : ℕ) (m : List ℕ) (x : ℕ) : Type 0 where

@@ -1,5 +1,5 @@
 ghost use Rattle.std.specs.Prelude.{◌≡◌};
-ghost use Rattle.diff.specs.Fill.{diffAnswer, diffNumbers, diffUsed, mapSized};
+ghost use Rattle.diff.specs.Fill.{diff_answer, diff_numbers, diff_used, map_sized};
 
 use crate::lent::tiles;
 use crate::walk::walk;
@@ -16,16 +16,16 @@ pub const LEAST_ROOM: usize = ROW_NUMBERS * MOST_ROWS;
 
 // Whether a map can have so many numbers.
 fn map_sized(map: &[u64]) -> bool
-    ensures { result ≡ mapSized map.now }
+    ensures { result ≡ map_sized map.now }
 {
     (map.len() <= map::fill::LEAST_ROOM) & (map.len() % map::fill::ROW_NUMBERS == 0)
 }
 
 // Fills lent memory with what differs between two maps of a guard. What it does not use stays as it was; on refusal all of it does.
 pub fn fill(guard: GuardNumber, before: &[u64], after: &[u64], numbers: &mut [u64]) -> Filled
-    ensures answer_value { result.answer ≡ diffAnswer guard.0 before.now after.now numbers.old }
-    ensures used_value { result.used ≡ diffUsed guard.0 before.now after.now numbers.old }
-    ensures numbers_after { numbers.new ≡ diffNumbers guard.0 before.now after.now numbers.old }
+    ensures answer_value { result.answer ≡ diff_answer guard.0 before.now after.now numbers.old }
+    ensures used_value { result.used ≡ diff_used guard.0 before.now after.now numbers.old }
+    ensures numbers_after { numbers.new ≡ diff_numbers guard.0 before.now after.now numbers.old }
 {
     let long = LEAST_ROOM <= numbers.len();
     if !(long & map_sized(before) & map_sized(after)) {

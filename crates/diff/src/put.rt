@@ -1,7 +1,7 @@
 ghost use Rattle.std.specs.Prelude.{◌≡◌, ◌+◌, ◌*◌, ◌≤◌, length};
 ghost use Rattle.diff.specs.Bits.{differing};
-ghost use Rattle.diff.specs.Put.{continues, countWith, numbersWith};
-ghost use Rattle.diff.specs.Rows.{diffRowNumbers};
+ghost use Rattle.diff.specs.Put.{continues, count_with, numbers_with};
+ghost use Rattle.diff.specs.Rows.{diff_row_numbers};
 
 use crate::fill::ROW_NUMBERS;
 
@@ -14,7 +14,7 @@ fn differing(old: u64, new: u64) -> u64
 
 // Whether there is a last row that ends right before start and has the same two words.
 fn continues(lent: &[u64], count: usize, start: u64, old: u64, new: u64) -> bool
-    requires { diffRowNumbers * count ≤ length lent.now }
+    requires { diff_row_numbers * count ≤ length lent.now }
     ensures { result ≡ continues lent.now count start old new }
 {
     if count == 0 {
@@ -31,9 +31,9 @@ fn continues(lent: &[u64], count: usize, start: u64, old: u64, new: u64) -> bool
 // One more span behind the first count rows of lent memory, and how many rows there then are. Where its words are equal it is no
 // row; where it goes on the last row that row ends with it; else it is a row of its own.
 pub(crate) fn put(lent: &mut [u64], count: usize, start: u64, end: u64, old: u64, new: u64) -> usize
-    requires { diffRowNumbers * count + diffRowNumbers ≤ length lent.old }
-    ensures value { result ≡ countWith lent.old count start old new }
-    ensures lent_after { lent.new ≡ numbersWith lent.old count start end old new }
+    requires { diff_row_numbers * count + diff_row_numbers ≤ length lent.old }
+    ensures value { result ≡ count_with lent.old count start old new }
+    ensures lent_after { lent.new ≡ numbers_with lent.old count start end old new }
 {
     if old == new {
         return count;

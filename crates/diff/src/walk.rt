@@ -1,10 +1,10 @@
 ghost use Rattle.std.specs.Prelude.{true, ◌≡◌, ◌+◌, ◌≤◌, length};
 ghost use Rattle.map.specs.Fill as map;
-ghost use Rattle.diff.specs.Diff.{diffOf};
-ghost use Rattle.diff.specs.Fill.{leastDiffRoom};
-ghost use Rattle.diff.specs.Lent.{mapRights, tiles};
-ghost use Rattle.diff.specs.Put.{pastRow};
-ghost use Rattle.diff.specs.Rows.{filledDiff, sizeDiff};
+ghost use Rattle.diff.specs.Diff.{diff_of};
+ghost use Rattle.diff.specs.Fill.{least_diff_room};
+ghost use Rattle.diff.specs.Lent.{map_rights, tiles};
+ghost use Rattle.diff.specs.Put.{past_row};
+ghost use Rattle.diff.specs.Rows.{filled_diff, size_diff};
 
 use crate::put::put;
 use map::fill::ROW_NUMBERS;
@@ -12,8 +12,8 @@ use spans::near;
 
 // The row after the one at i, where that ends before at; else the one at i.
 fn past(rows: &[u64], i: usize, at: u64) -> usize
-    requires { i + map.rowNumbers ≤ length rows.now }
-    ensures { result ≡ pastRow rows.now i at }
+    requires { i + map.row_numbers ≤ length rows.now }
+    ensures { result ≡ past_row rows.now i at }
 {
     if rows[i + 1] < at {
         return i + ROW_NUMBERS;
@@ -24,9 +24,9 @@ fn past(rows: &[u64], i: usize, at: u64) -> usize
 // What differs between two maps of one window, over the front of lent memory, and its count of rows: both are walked once, from
 // boundary to boundary of either.
 pub(crate) fn walk(before: &[u64], after: &[u64], window: u64, lent: &mut [u64]) -> usize
-    requires { (tiles window before.now ≡ true) × (tiles window after.now ≡ true) × (length before.now ≤ map.leastRoom) × (length after.now ≤ map.leastRoom) × (leastDiffRoom ≤ length lent.old) }
-    ensures value { result ≡ sizeDiff (diffOf (mapRights before.now) (mapRights after.now) window) }
-    ensures lent_after { lent.new ≡ filledDiff (diffOf (mapRights before.now) (mapRights after.now) window) lent.old }
+    requires { (tiles window before.now ≡ true) × (tiles window after.now ≡ true) × (length before.now ≤ map.least_room) × (length after.now ≤ map.least_room) × (least_diff_room ≤ length lent.old) }
+    ensures value { result ≡ size_diff (diff_of (map_rights before.now) (map_rights after.now) window) }
+    ensures lent_after { lent.new ≡ filled_diff (diff_of (map_rights before.now) (map_rights after.now) window) lent.old }
 {
     let mut at: u64 = 0;
     let mut i: usize = 0;

@@ -11,11 +11,11 @@ use Rattle.access.specs.declared.answer.Answer.{Answer}
 use Rattle.access.specs.declared.answer.Answer.TheVariants.{Done, Refused, Rejected}
 use Rattle.access.specs.declared.flag.Flag.{Flag}
 use Rattle.access.specs.declared.request.Request.{Request}
-use Rattle.iac.specs.Contents.{stored, withWord}
-use Rattle.iac.specs.Flags.{isFlag, flagSet, raise}
-use Rattle.iac.specs.Held.{heldLine, held}
-use Rattle.iac.specs.Port.{read_of, wordWritten, answer_of, written, stepped}
-use Rattle.iac.specs.Registers.{registerAt, iisr, row_of}
+use Rattle.iac.specs.Contents.{stored, with_word}
+use Rattle.iac.specs.Flags.{is_flag, flag_set, raise}
+use Rattle.iac.specs.Held.{held_line, held}
+use Rattle.iac.specs.Port.{read_of, word_written, answer_of, written, stepped}
+use Rattle.iac.specs.Registers.{register_at, iisr, row_of}
 use Rattle.iac.specs.declared.contents.Iac.{Iac}
 use Rattle.iac.specs.declared.registers.Register.{Register}
 use Rattle.iac.specs.declared.registers.Register.TheVariants.{Icr}
@@ -23,43 +23,43 @@ use Rattle.iac.proofs.NamedHeld.{held_kept, held_same}
 use Rattle.iac.proofs.NamedWords.{Alike, Has, stored-alike, with-alike, stored-again, word_kept, word_same}
 
 -- the register that clears flag i; a flag that there is has a named bit of it
-abbrev flagRegister : Flag → Register
-flagRegister i = Icr (i.0 / 32)
+abbrev flag_register : Flag → Register
+flag_register i = Icr (i.0 / 32)
 
-flag-bit : (i : Flag) → isFlag i ≡ true → bit (row_of (flagRegister i)).named (i.0 % 32) ≡ true
+flag-bit : (i : Flag) → is_flag i ≡ true → bit (row_of (flag_register i)).named (i.0 % 32) ≡ true
 unfolding row_of iisr
 flag-bit i h = h
 
 -- what an access to a register leaves, by its answer; w says whether it is a write
 abbrev leaves : Answer → Bool → Iac → Register → Request → Iac
-leaves a w s reg q = left a s (cond w (held s (withWord s reg (wordWritten reg (stored s reg) q.value))) s) s
+leaves a w s reg q = left a s (cond w (held s (with_word s reg (word_written reg (stored s reg) q.value))) s) s
 
 -- ---- an access and a flag change named bits alone
 
 module _ {S t s : Iac} (has : Has S) (own : Alike Kept S t s) where
-  with-kept : (reg : Register) (w : ℕ) → Kept (stored S reg) w (stored s reg) → Alike Kept S (held t (withWord t reg w)) s
+  with-kept : (reg : Register) (w : ℕ) → Kept (stored S reg) w (stored s reg) → Alike Kept S (held t (with_word t reg w)) s
   with-kept reg w r =
-      held_kept has own (subst (Alike Kept S (withWord t reg w)) (stored-again s reg) (with-alike (kept_refl 0 0) own reg r))
+      held_kept has own (subst (Alike Kept S (with_word t reg w)) (stored-again s reg) (with-alike (kept_refl 0 0) own reg r))
 
   pub raise-kept : (i : Flag) → Alike Kept S (raise i t) s
-  unfolding raise flagSet stored
-  raise-kept i = go (isFlag i) refl
+  unfolding raise flag_set stored
+  raise-kept i = go (is_flag i) refl
     where
-      go : (b : Bool) → isFlag i ≡ b → Alike Kept S (cond b (held t (flagSet i t)) t) s
+      go : (b : Bool) → is_flag i ≡ b → Alike Kept S (cond b (held t (flag_set i t)) t) s
       go true e =
-          with-kept (flagRegister i) _
-          (λ j l h. kept_set _ _ _ (has.words (flagRegister i) (i.0 % 32) (mod-lt i.0 (omega arith)) (flag-bit i e)) j l h ∙ stored-alike (kept_refl 0 0) own (flagRegister i) j l h)
+          with-kept (flag_register i) _
+          (λ j l h. kept_set _ _ _ (has.words (flag_register i) (i.0 % 32) (mod-lt i.0 (omega arith)) (flag-bit i e)) j l h ∙ stored-alike (kept_refl 0 0) own (flag_register i) j l h)
       go false e = own
 
 pub stepped_kept : {S s : Iac} → Has S → Alike Kept S s s → (q : Request) → Alike Kept S (stepped s q).next s
 unfolding stepped written
 stepped_kept {S} {s} has own q =
-    let reg = registerAt q.offset in
+    let reg = register_at q.offset in
     go (answer_of (row_of reg) (stored s reg) q) q.write
   where
-    go : (a : Answer) (w : Bool) → Alike Kept S (leaves a w s (registerAt q.offset) q) s
+    go : (a : Answer) (w : Bool) → Alike Kept S (leaves a w s (register_at q.offset) q) s
     go (Done v) true =
-        let reg = registerAt q.offset in
+        let reg = register_at q.offset in
         with-kept has own reg _ (word_kept reg (stored S reg) (stored s reg) q.value (has.words reg))
     go (Done v) false = own
     go (Refused v) w = own
@@ -71,7 +71,7 @@ module _ {S s s' : Iac} (has : Has S) (same : Alike Same S s s') where
   abbrev word-alike : (reg : Register) → Same (stored S reg) (stored s reg) (stored s' reg)
   word-alike reg = stored-alike (same_refl 0 0) same reg
 
-  with-same : (reg : Register) (w w' : ℕ) → Same (stored S reg) w w' → Alike Same S (held s (withWord s reg w)) (held s' (withWord s' reg w'))
+  with-same : (reg : Register) (w w' : ℕ) → Same (stored S reg) w w' → Alike Same S (held s (with_word s reg w)) (held s' (with_word s' reg w'))
   with-same reg w w' e = held_same has same (with-alike (same_refl 0 0) same reg e)
 
   answer-same : (reg : Register) (q : Request) → answer_of (row_of reg) (stored s reg) q ≡ answer_of (row_of reg) (stored s' reg) q
@@ -81,26 +81,26 @@ module _ {S s s' : Iac} (has : Has S) (same : Alike Same S s s') where
   pub stepped_same : (q : Request) → ((stepped s q).answer ≡ (stepped s' q).answer) × Alike Same S (stepped s q).next (stepped s' q).next
   unfolding stepped written
   stepped_same q =
-      let reg = registerAt q.offset in
+      let reg = register_at q.offset in
       let e = answer-same reg q in
       (e, rw e (go (answer_of (row_of reg) (stored s' reg) q) q.write))
     where
-      go : (a : Answer) (w : Bool) → Alike Same S (leaves a w s (registerAt q.offset) q) (leaves a w s' (registerAt q.offset) q)
+      go : (a : Answer) (w : Bool) → Alike Same S (leaves a w s (register_at q.offset) q) (leaves a w s' (register_at q.offset) q)
       go (Done v) true =
-          let reg = registerAt q.offset in
+          let reg = register_at q.offset in
           with-same reg _ _ (word_same reg (stored S reg) _ _ q.value (word-alike reg))
       go (Done v) false = same
       go (Refused v) w = same
       go (Rejected why) w = same
 
   pub raise-same : (i : Flag) → Alike Same S (raise i s) (raise i s')
-  unfolding raise flagSet stored
-  raise-same i = go (isFlag i)
+  unfolding raise flag_set stored
+  raise-same i = go (is_flag i)
     where
-      go : (b : Bool) → Alike Same S (cond b (held s (flagSet i s)) s) (cond b (held s' (flagSet i s')) s')
-      go true = with-same (flagRegister i) _ _ (same_set _ _ _ (i.0 % 32) (word-alike (flagRegister i)))
+      go : (b : Bool) → Alike Same S (cond b (held s (flag_set i s)) s) (cond b (held s' (flag_set i s')) s')
+      go true = with-same (flag_register i) _ _ (same_set _ _ _ (i.0 % 32) (word-alike (flag_register i)))
       go false = same
 
   -- the interrupt line, as it is kept
-  pub line_same : heldLine s ≡ heldLine s'
+  pub line_same : held_line s ≡ held_line s'
   line_same = same.line.bits 0 (omega arith) (has.line 0 (omega arith) refl)

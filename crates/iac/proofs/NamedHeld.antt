@@ -6,13 +6,13 @@ use native.Mathlib.Omega.{arith}
 use borrow.Author.Tests.{eqb-true}
 use lib.Dec.{eqb}
 use lib.ListN.{get_or}
-use Rattle.words.specs.Bit.{bit, withBit}
-use Rattle.words.specs.Six.{bitWords}
+use Rattle.words.specs.Bit.{bit, with_bit}
+use Rattle.words.specs.Six.{bit_words}
 use Rattle.words.proofs.Alike.{Within, Kept, Same, same_refl, kept_word, same_word, kept-merged, same-merged, same-masked, each-get}
 use Rattle.words.proofs.Laws.{word-bits, bit-ones}
 use Rattle.access.proofs.Folds.{any_same}
-use Rattle.iac.specs.Contents.{stored, held_of, withHeld}
-use Rattle.iac.specs.Held.{freshAt, fresh, changes, changesAt, changed, added, withCount, held}
+use Rattle.iac.specs.Contents.{stored, held_of, with_held}
+use Rattle.iac.specs.Held.{fresh_at, fresh, changes, changes_at, changed, added, with_count, held}
 use Rattle.iac.specs.Registers.{iisr, row_of}
 use Rattle.iac.specs.declared.contents.Iac.{Iac}
 use Rattle.iac.specs.declared.registers.Register.TheVariants.{Ier, Isr}
@@ -22,12 +22,12 @@ use Rattle.iac.proofs.Sums.{sum_same}
 
 -- where b says that a named bit changes, to the count n
 abbrev holding : Bool → ℕ → Iac → Iac → Iac
-holding b n s t = withHeld t (cond b (withCount (held_of s) n) (held_of s))
+holding b n s t = with_held t (cond b (with_count (held_of s) n) (held_of s))
 
 -- ---- named bits of the two words are changed alone
 
-bit_kept : (mask x : ℕ) (b : Bool) → Within 1 mask → Kept mask (withBit 32 x 0 b) x
-unfolding withBit
+bit_kept : (mask x : ℕ) (b : Bool) → Within 1 mask → Kept mask (with_bit 32 x 0 b) x
+unfolding with_bit
 bit_kept mask x b within = kept_word mask x _ (λ j l h. go j h (eqb j 0) refl)
   where
     go : (j : ℕ) → bit mask j ≡ false → (t : Bool) → eqb j 0 ≡ t → cond t b (bit x j) ≡ bit x j
@@ -36,7 +36,7 @@ bit_kept mask x b within = kept_word mask x _ (λ j l h. go j h (eqb j 0) refl)
 
 -- s before and t after are both u but for named bits
 pub held_kept : {S s t u : Iac} → Has S → Alike Kept S s u → Alike Kept S t u → Alike Kept S (held s t) u
-unfolding held withCount
+unfolding held with_count
 held_kept {S} {s} {t} {u} has before after = go (changed s t) (added s.count (fresh s) (fresh t))
   where
     go : (b : Bool) (n : ℕ) → Alike Kept S (holding b n s t) u
@@ -51,8 +51,8 @@ held_kept {S} {s} {t} {u} has before after = go (changed s t) (added s.count (fr
 
 -- ---- by named bits alone
 
-bit-same : (mask x y : ℕ) (b : Bool) → Same mask x y → Same mask (withBit 32 x 0 b) (withBit 32 y 0 b)
-unfolding withBit
+bit-same : (mask x y : ℕ) (b : Bool) → Same mask x y → Same mask (with_bit 32 x 0 b) (with_bit 32 y 0 b)
+unfolding with_bit
 bit-same mask x y b r = same_word mask _ _ (λ j l h. ap (cond (eqb j 0) b) (r.bits j l h))
 
 low_same : (mask x y : ℕ) → Within 0xff mask → Same mask x y → x % 256 ≡ y % 256
@@ -70,15 +70,15 @@ module _ {S : Iac} (has : Has S) where
   ier-named x = has.words (Ier x)
 
   fresh-alike : {s s' : Iac} → Alike Same S s s' → fresh s ≡ fresh s'
-  unfolding fresh freshAt
+  unfolding fresh fresh_at
   fresh-alike {s} {s'} r =
-      sum_same bitWords (freshAt s) (freshAt s')
+      sum_same bit_words (fresh_at s) (fresh_at s')
       (λ x m. fresh-same (iisr x) _ _ _ _ (λ j l h. ((each-get r.isr (same_refl 0 0) x).bits j l (isr-named x j l h), (each-get r.ier (same_refl 0 0) x).bits j l (ier-named x j l h))))
 
   changed-alike : {s s' t t' : Iac} → Alike Same S s s' → Alike Same S t t' → changed s t ≡ changed s' t'
-  unfolding changed changesAt
+  unfolding changed changes_at
   changed-alike {s} {s'} {t} {t'} r q =
-      any_same bitWords (changesAt s t) (changesAt s' t')
+      any_same bit_words (changes_at s t) (changes_at s' t')
       (λ x m. ap₂ ◌||◌ (at x _ _ _ _ _ (isr-named x) (each-get r.isr (same_refl 0 0) x) (each-get q.isr (same_refl 0 0) x)) (at x _ _ _ _ _ (ier-named x) (each-get r.ier (same_refl 0 0) x) (each-get q.ier (same_refl 0 0) x)))
     where
       at : (x mask a a' b b' : ℕ) → Within (iisr x) mask → Same mask a a' → Same mask b b' → changes (iisr x) a b ≡ changes (iisr x) a' b'
@@ -86,7 +86,7 @@ module _ {S : Iac} (has : Has S) where
           ap₂ (λ (u v : ℕ). not (eqb u v)) (same-masked (iisr x) mask a a' within ra) (same-masked (iisr x) mask b b' within rb)
 
   pub held_same : {s s' t t' : Iac} → Alike Same S s s' → Alike Same S t t' → Alike Same S (held s t) (held s' t')
-  unfolding held withCount
+  unfolding held with_count
   held_same {s} {s'} {t} {t'} before after =
       rw (
         changed-alike before after,

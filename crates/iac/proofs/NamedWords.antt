@@ -5,8 +5,8 @@ use Prim.Native.Nat.{ℕ}
 use lib.Seq.{set-get_or}
 use Rattle.words.specs.Bit.{bit}
 use Rattle.words.proofs.Alike.{Within, Kept, Same, within-not, kept_refl, kept_word, same_word, kept-merged, same-merged, Each, each-get, each_set}
-use Rattle.iac.specs.Contents.{stored, withWord}
-use Rattle.iac.specs.Port.{wordWritten}
+use Rattle.iac.specs.Contents.{stored, with_word}
+use Rattle.iac.specs.Port.{word_written}
 use Rattle.iac.specs.Registers.{iisr, row_of}
 use Rattle.iac.specs.declared.contents.Iac.{Iac}
 use Rattle.iac.specs.declared.registers.Register.{Register}
@@ -35,8 +35,8 @@ module _ {R : ℕ → ℕ → ℕ → Type 0} {S s s' : Iac} (z : R 0 0 0) (r : 
   stored-alike (Iisr x) = z
   stored-alike Unknown = z
 
-  pub with-alike : {w w' : ℕ} (reg : Register) → R (stored S reg) w w' → Alike R S (withWord s reg w) (withWord s' reg w')
-  unfolding stored withWord
+  pub with-alike : {w w' : ℕ} (reg : Register) → R (stored S reg) w w' → Alike R S (with_word s reg w) (with_word s' reg w')
+  unfolding stored with_word
   with-alike (Ier x) e = record { ier = each_set r.ier x 0 e; isr = r.isr; line = r.line; count = r.count }
   with-alike (Isr x) e = r
   with-alike (Icr x) e = record { ier = r.ier; isr = each_set r.isr x 0 e; line = r.line; count = r.count }
@@ -44,8 +44,8 @@ module _ {R : ℕ → ℕ → ℕ → Type 0} {S s s' : Iac} (z : R 0 0 0) (r : 
   with-alike Unknown e = r
 
 -- the word that is stored, stored again
-pub stored-again : (s : Iac) (reg : Register) → withWord s reg (stored s reg) ≡ s
-unfolding stored withWord
+pub stored-again : (s : Iac) (reg : Register) → with_word s reg (stored s reg) ≡ s
+unfolding stored with_word
 stored-again s (Ier x) = rw (set-get_or s.ier x 0)
 stored-again s (Isr x) = refl
 stored-again s (Icr x) = rw (set-get_or s.isr x 0)
@@ -54,8 +54,8 @@ stored-again s Unknown = refl
 
 -- ---- the word that a write leaves
 
-pub word_kept : (reg : Register) (mask old value : ℕ) → Within (row_of reg).named mask → Kept mask (wordWritten reg old value) old
-unfolding wordWritten row_of
+pub word_kept : (reg : Register) (mask old value : ℕ) → Within (row_of reg).named mask → Kept mask (word_written reg old value) old
+unfolding word_written row_of
 word_kept (Ier x) mask old value within = kept-merged (iisr x) mask old value within
 word_kept (Isr x) mask old value within = kept_refl mask old
 word_kept (Icr x) mask old value within =
@@ -64,8 +64,8 @@ word_kept (Icr x) mask old value within =
 word_kept (Iisr x) mask old value within = kept_refl mask old
 word_kept Unknown mask old value within = kept_refl mask old
 
-pub word_same : (reg : Register) (mask x y value : ℕ) → Same mask x y → Same mask (wordWritten reg x value) (wordWritten reg y value)
-unfolding wordWritten
+pub word_same : (reg : Register) (mask x y value : ℕ) → Same mask x y → Same mask (word_written reg x value) (word_written reg y value)
+unfolding word_written
 word_same (Ier i) mask x y value r = same-merged _ mask x y value r
 word_same (Isr i) mask x y value r = r
 word_same (Icr i) mask x y value r =

@@ -9,9 +9,9 @@ use Rattle.access.specs.declared.answer.Answer.TheVariants.{Done, Refused, Rejec
 use Rattle.access.specs.declared.answer.Why.TheVariants.{Misaligned, NoRegister}
 use Rattle.access.specs.declared.checks.Checks.{Checks}
 use Rattle.access.specs.declared.request.Request.{Request}
-use Rattle.iac.specs.Registers.{registerAt, iisr, row_of}
+use Rattle.iac.specs.Registers.{register_at, iisr, row_of}
 use Rattle.iac.specs.declared.registers.Row.{Row}
-use Rattle.iac.specs.Contents.{stored, withWord}
+use Rattle.iac.specs.Contents.{stored, with_word}
 use Rattle.iac.specs.Held.{held}
 use Rattle.iac.specs.declared.registers.Register.{Register}
 use Rattle.iac.specs.declared.registers.Register.TheVariants.{Ier, Isr, Icr, Iisr, Unknown}
@@ -24,16 +24,16 @@ unfoldable pub read_of : Row → ℕ → ℕ
 read_of row old = united 32 (masked 32 old row.named) row.fixed
 
 -- the word that a write leaves; IER bits with no IISR bit take no write, and writing 1 to ICR clears the flag
-unfoldable pub wordWritten : Register → ℕ → ℕ → ℕ
-wordWritten (Ier x) old value = merged 32 old value (iisr x)
-wordWritten (Isr x) old value = old
-wordWritten (Icr x) old value = word 32 (λ i. bit old i && not (bit (iisr x) i && bit value i))
-wordWritten (Iisr x) old value = old
-wordWritten Unknown old value = old
+unfoldable pub word_written : Register → ℕ → ℕ → ℕ
+word_written (Ier x) old value = merged 32 old value (iisr x)
+word_written (Isr x) old value = old
+word_written (Icr x) old value = word 32 (λ i. bit old i && not (bit (iisr x) i && bit value i))
+word_written (Iisr x) old value = old
+word_written Unknown old value = old
 
 -- the checks, in their order
-unfoldable pub checksOf : Row → Request → Checks
-checksOf row q =
+unfoldable pub checks_of : Row → Request → Checks
+checks_of row q =
     record {
       present = true;
       aligned = eqb (q.offset % 4) 0;
@@ -46,11 +46,11 @@ checksOf row q =
     }
 
 unfoldable pub answer_of : Row → ℕ → Request → Answer
-answer_of row old q = answered (checksOf row q) (gives q (read_of row old))
+answer_of row old q = answered (checks_of row q) (gives q (read_of row old))
 
 -- of a read: what code goes by
-unfoldable pub readAnswer : Row → ℕ → Request → Answer
-readAnswer row old q =
+unfoldable pub read_answer : Row → ℕ → Request → Answer
+read_answer row old q =
     unless (eqb (q.offset % 4) 0) (Rejected Misaligned)
     (unless row.known (Rejected NoRegister)
     (unless (not row.guarded || q.secure && q.privileged) (Refused 0)
@@ -60,11 +60,11 @@ readAnswer row old q =
 unfoldable pub accessed : Register → Row → Seen → Request → Accessed
 accessed reg row v q =
     let a = answer_of row v.word q in
-    record { next = left a v (cond q.write (record { word = wordWritten reg v.word q.value }) v) v; answer = a }
+    record { next = left a v (cond q.write (record { word = word_written reg v.word q.value }) v) v; answer = a }
 
 -- what an access leaves; a refusal leaves the registers as they were, and its flag is raised beside (Flags)
 unfoldable pub written : Iac → Register → Request → Iac
-written s reg q = cond q.write (held s (withWord s reg (wordWritten reg (stored s reg) q.value))) s
+written s reg q = cond q.write (held s (with_word s reg (word_written reg (stored s reg) q.value))) s
 
 pub record Stepped : Type 0 where
   pub next : Iac
@@ -72,6 +72,6 @@ pub record Stepped : Type 0 where
 
 unfoldable pub stepped : Iac → Request → Stepped
 stepped s q =
-    let reg = registerAt q.offset in
+    let reg = register_at q.offset in
     let a = answer_of (row_of reg) (stored s reg) q in
     record { next = left a s (written s reg q) s; answer = a }

@@ -6,8 +6,8 @@ use Rattle.iac.specs.declared.registers.Register.{Register}
 use Rattle.iac.specs.declared.registers.Register.TheVariants.{Ier, Isr, Icr, Iisr, Unknown}
 
 -- the register at an offset that is a multiple of 4
-unfoldable pub registerAt : ℕ → Register
-registerAt o =
+unfoldable pub register_at : ℕ → Register
+register_at o =
     cond (within 0x000 0x017 o) (Ier ((o - 0x000) / 4))
     (cond (within 0x080 0x097 o) (Isr ((o - 0x080) / 4))
     (cond (within 0x100 0x117 o) (Icr ((o - 0x100) / 4))

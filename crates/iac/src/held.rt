@@ -1,6 +1,6 @@
 // The interrupt line and the count of flags set and enabled, as they are kept.
 ghost use Rattle.std.specs.Prelude.{◌≡◌};
-ghost use Rattle.iac.specs.Held.{fresh_of, withCount};
+ghost use Rattle.iac.specs.Held.{fresh_of, with_count};
 
 // The words that keep them, whole.
 #[derive(Drop)]
@@ -21,7 +21,7 @@ pub fn fresh(named: u32, a: u32, b: u32) -> u32
 impl Held {
     // With another count.
     pub fn with_count(mut self, count: u32) -> Self
-        ensures { result ≡ withCount self count }
+        ensures { result ≡ with_count self count }
     {
         self.line = words::with_bit(self.line, 0, count != 0);
         self.count = words::merge(self.count, count, 0xff);

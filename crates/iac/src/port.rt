@@ -1,5 +1,5 @@
 ghost use Rattle.std.specs.Prelude.{◌&&◌, ◌||◌, not, ◌≡◌};
-ghost use Rattle.iac.specs.Port.{accessed, readAnswer, wordWritten};
+ghost use Rattle.iac.specs.Port.{accessed, read_answer, word_written};
 
 use crate::Register;
 use crate::registers::{Row, iisr};
@@ -20,7 +20,7 @@ pub struct Accessed {
 
 // The word that a write leaves. IER bits with no IISR bit take no write; writing 1 to ICR clears the flag.
 fn word_written(reg: Register, old: u32, value: u32) -> u32
-    ensures { result ≡ wordWritten reg old value }
+    ensures { result ≡ word_written reg old value }
 {
     match reg {
         Register::Ier(x) => words::merge(old, value, iisr(x)),
@@ -41,7 +41,7 @@ impl Row {
 
     // The answer to a read of a register with this row, whose stored word is old.
     pub fn read(self, old: u32, q: Request) -> Answer
-        ensures { result ≡ readAnswer self old q }
+        ensures { result ≡ read_answer self old q }
     {
         if q.offset % 4 != 0 {
             return Answer::Rejected(Why::Misaligned);

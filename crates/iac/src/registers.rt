@@ -1,5 +1,5 @@
 ghost use Rattle.std.specs.Prelude.{◌≡◌};
-ghost use Rattle.iac.specs.Registers.{iisr, registerAt, row, row_of};
+ghost use Rattle.iac.specs.Registers.{iisr, register_at, row, row_of};
 
 // A register of the illegal access controller, with its index.
 #[derive(Drop)]
@@ -45,7 +45,7 @@ pub(crate) fn iisr(x: usize) -> u32
 
 // The register at an offset that is a multiple of 4.
 pub fn register_at(offset: u32) -> Register
-    ensures { result ≡ registerAt offset }
+    ensures { result ≡ register_at offset }
 {
     match offset {
         0x000..=0x017 => Register::Ier((offset / 4) as usize),

@@ -5,11 +5,11 @@ use mathlib.Core.Path.{◌≡◌, sym, ◌∙◌}
 use Prim.Native.Nat.{ℕ, ◌^◌, ◌≤◌}
 use lib.ListN.{length}
 use borrow.Author.Tests.{not-false}
-use Rattle.regions.specs.Words.{mostRegions}
-use Rattle.risaf.specs.Contents.{regionsWords}
+use Rattle.regions.specs.Words.{most_regions}
+use Rattle.risaf.specs.Contents.{regions_words}
 use Rattle.risaf.specs.Guards.{shape_of}
 use Rattle.risaf.proofs.Shapes.{regions-most, window-most, place-lt}
-use Rattle.device.specs.Layout.{stateWords, state_of, regionsIn}
+use Rattle.device.specs.Layout.{state_words, state_of, regions_in}
 use Rattle.device.specs.State.{guard_of}
 use Rattle.device.proofs.GuardLayout.{regions-read, regions-length}
 
@@ -17,15 +17,15 @@ use Rattle.device.proofs.GuardLayout.{regions-read, regions-length}
 pub passed : {a b : Bool} → b ≡ a → not b ≡ false → a ≡ true
 passed {a} {b} e h = sym e ∙ not-false b h
 
-pub small : (n : ℕ) → ((shape_of n).regions ≤ mostRegions) × ((shape_of n).window ≤ 2 ^ 32)
+pub small : (n : ℕ) → ((shape_of n).regions ≤ most_regions) × ((shape_of n).window ≤ 2 ^ 32)
 small n = (regions-most n, window-most n)
 
 -- ---- the words of its regions
 
-pub guard-regions : (m : List ℕ) (n : ℕ) → length m ≡ stateWords → regionsIn m (shape_of n).place ≡ (guard_of (state_of m) n).regions
+pub guard-regions : (m : List ℕ) (n : ℕ) → length m ≡ state_words → regions_in m (shape_of n).place ≡ (guard_of (state_of m) n).regions
 unfolding guard_of
 guard-regions m n h = regions-read m (shape_of n).place h (place-lt n)
 
-pub guard-regions-length : (m : List ℕ) (n : ℕ) → length m ≡ stateWords → length (guard_of (state_of m) n).regions ≡ regionsWords
+pub guard-regions-length : (m : List ℕ) (n : ℕ) → length m ≡ state_words → length (guard_of (state_of m) n).regions ≡ regions_words
 unfolding guard_of
 guard-regions-length m n h = regions-length m (shape_of n).place h (place-lt n)

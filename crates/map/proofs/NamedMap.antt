@@ -7,20 +7,20 @@ use lib.Dec.{eqb}
 use lib.ListN.{length}
 use Rattle.access.specs.Answer.{number_of}
 use Rattle.access.specs.declared.answer.Answer.{Answer}
-use Rattle.risaf.specs.Guards.{isGuard}
+use Rattle.risaf.specs.Guards.{is_guard}
 use Rattle.spans.specs.Rows.{flat}
-use Rattle.device.specs.Layout.{stateWords, state_of}
+use Rattle.device.specs.Layout.{state_words, state_of}
 use Rattle.device.specs.Named.{Agree, Words32}
 use Rattle.device.specs.declared.event.Event.TheVariants.{Memory}
 use Rattle.device.proofs.NamedDecide.{states-same, step_same}
-use Rattle.map.specs.Demand.{grantsAt}
+use Rattle.map.specs.Demand.{grants_at}
 use Rattle.map.specs.Map.{rows_of}
 use Rattle.map.specs.Sheets.{SameGrants}
 use Rattle.map.proofs.Sheets.{sheets}
 
-pub named-map : (m m' : List ℕ) (n : ℕ) → isGuard n ≡ true → length m ≡ stateWords → length m ≡ length m' → Words32 m → Words32 m'
+pub named-map : (m m' : List ℕ) (n : ℕ) → is_guard n ≡ true → length m ≡ state_words → length m ≡ length m' → Words32 m → Words32 m'
     → Agree m m' → flat (rows_of (state_of m) n) ≡ flat (rows_of (state_of m') n)
-unfolding SameGrants grantsAt
+unfolding SameGrants grants_at
 named-map m m' n h sized l fits fits' agree =
     let same = states-same m m' sized l fits fits' agree in
     (sheets (state_of m) (state_of m') n h).1

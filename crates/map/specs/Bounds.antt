@@ -8,6 +8,6 @@ abbrev pub pair_at : List ℕ → ℕ → ℕ × ℕ
 pair_at w p = (get_or w (p + start_at) 0, get_or w (p + end_at) 0)
 
 -- those of n base regions and their subregions, enabled or not
-unfoldable pub pairsOf : List ℕ → ℕ → List (ℕ × ℕ)
-pairsOf w zero = []
-pairsOf w (suc x) = pair_at w (sub x 1) ∷ pair_at w (sub x 0) ∷ pair_at w (base x) ∷ pairsOf w x
+unfoldable pub pairs_of : List ℕ → ℕ → List (ℕ × ℕ)
+pairs_of w zero = []
+pairs_of w (suc x) = pair_at w (sub x 1) ∷ pair_at w (sub x 0) ∷ pair_at w (base x) ∷ pairs_of w x

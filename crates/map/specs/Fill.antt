@@ -4,33 +4,33 @@ use Rattle.std.specs.Prelude.{Bool, ◌&&◌, cond, List, ℕ, ◌*◌, leb, len
 use Rattle.access.specs.declared.answer.Answer.{Answer}
 use Rattle.access.specs.declared.answer.Answer.TheVariants.{Done, Rejected}
 use Rattle.access.specs.declared.answer.Why.TheVariants.{NoSuch, WrongLength}
-use Rattle.risaf.specs.Guards.{isGuard}
+use Rattle.risaf.specs.Guards.{is_guard}
 use Rattle.spans.specs.Rows.{size, filled}
 use Rattle.device.specs.Layout.{state_of}
 use Rattle.device.specs.Applied.{sized}
 use Rattle.map.specs.Map.{rows_of}
 
 -- rows of three numbers, of which no map has more than 67
-abbrev pub rowNumbers : ℕ
-rowNumbers = 3
+abbrev pub row_numbers : ℕ
+row_numbers = 3
 
-abbrev pub mostRows : ℕ
-mostRows = 67
+abbrev pub most_rows : ℕ
+most_rows = 67
 
-abbrev pub leastRoom : ℕ
-leastRoom = rowNumbers * mostRows
+abbrev pub least_room : ℕ
+least_room = row_numbers * most_rows
 
-unfoldable pub fillAnswer : List ℕ → ℕ → List ℕ → Answer
-fillAnswer m n l = cond (sized m && leb leastRoom (length l)) (cond (isGuard n) (Done 0) (Rejected NoSuch)) (Rejected WrongLength)
+unfoldable pub fill_answer : List ℕ → ℕ → List ℕ → Answer
+fill_answer m n l = cond (sized m && leb least_room (length l)) (cond (is_guard n) (Done 0) (Rejected NoSuch)) (Rejected WrongLength)
 
 -- the map is made
 abbrev pub fills : List ℕ → ℕ → List ℕ → Bool
-fills m n l = sized m && leb leastRoom (length l) && isGuard n
+fills m n l = sized m && leb least_room (length l) && is_guard n
 
 -- how many numbers are used
-unfoldable pub fillUsed : List ℕ → ℕ → List ℕ → ℕ
-fillUsed m n l = cond (fills m n l) (rowNumbers * size (rows_of (state_of m) n)) 0
+unfoldable pub fill_used : List ℕ → ℕ → List ℕ → ℕ
+fill_used m n l = cond (fills m n l) (row_numbers * size (rows_of (state_of m) n)) 0
 
 -- the lent numbers after it
-unfoldable pub fillNumbers : List ℕ → ℕ → List ℕ → List ℕ
-fillNumbers m n l = cond (fills m n l) (filled (rows_of (state_of m) n) l) l
+unfoldable pub fill_numbers : List ℕ → ℕ → List ℕ → List ℕ
+fill_numbers m n l = cond (fills m n l) (filled (rows_of (state_of m) n) l) l

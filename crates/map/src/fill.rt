@@ -1,9 +1,9 @@
 ghost use Rattle.std.specs.Prelude.{◌≡◌, ◌^◌, ◌≤◌, length};
-ghost use Rattle.regions.specs.Rights.{rightsWord};
-ghost use Rattle.regions.specs.Words.{base, mostRegions};
-ghost use Rattle.spans.specs.Map.{mapOf};
+ghost use Rattle.regions.specs.Rights.{rights_word};
+ghost use Rattle.regions.specs.Words.{base, most_regions};
+ghost use Rattle.spans.specs.Map.{map_of};
 ghost use Rattle.spans.specs.Rows.{filled, size};
-ghost use Rattle.map.specs.Fill.{fillAnswer, fillNumbers, fillUsed, leastRoom};
+ghost use Rattle.map.specs.Fill.{fill_answer, fill_numbers, fill_used, least_room};
 
 use access::{Answer, Bus, Why};
 use device::{STATE_WORDS, region_words};
@@ -28,9 +28,9 @@ pub struct Filled {
 // The map of what n base regions give, over the front of lent memory, and its count of rows: from boundary to boundary, a span
 // with the rights at its start. They are those of the active base regions, up to the next START.
 fn sweep(bus: Bus, w: &[u32], n: usize, window: u64, lent: &mut [u64]) -> usize
-    requires { (n ≤ mostRegions) × (base n ≤ length w.now) × (window ≤ 2 ^ 32) × (leastRoom ≤ length lent.old) }
-    ensures value { result ≡ size (mapOf (rightsWord bus w.now n) window) }
-    ensures lent_after { lent.new ≡ filled (mapOf (rightsWord bus w.now n) window) lent.old }
+    requires { (n ≤ most_regions) × (base n ≤ length w.now) × (window ≤ 2 ^ 32) × (least_room ≤ length lent.old) }
+    ensures value { result ≡ size (map_of (rights_word bus w.now n) window) }
+    ensures lent_after { lent.new ≡ filled (map_of (rights_word bus w.now n) window) lent.old }
 {
     let mut at: u64 = 0;
     let mut count: usize = 0;
@@ -51,9 +51,9 @@ fn sweep(bus: Bus, w: &[u32], n: usize, window: u64, lent: &mut [u64]) -> usize
 
 // Fills lent memory with the map of a guard. What it does not use stays as it was; on refusal all of it does.
 pub fn fill(state: &[u32], guard: GuardNumber, buffer: &mut [u64]) -> Filled
-    ensures answer_value { result.answer ≡ fillAnswer state.now guard.0 buffer.old }
-    ensures used_value { result.used ≡ fillUsed state.now guard.0 buffer.old }
-    ensures buffer_after { buffer.new ≡ fillNumbers state.now guard.0 buffer.old }
+    ensures answer_value { result.answer ≡ fill_answer state.now guard.0 buffer.old }
+    ensures used_value { result.used ≡ fill_used state.now guard.0 buffer.old }
+    ensures buffer_after { buffer.new ≡ fill_numbers state.now guard.0 buffer.old }
 {
     if state.len() != STATE_WORDS {
         return Filled {

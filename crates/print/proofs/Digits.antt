@@ -11,11 +11,11 @@ use lib.Dec.{ltb}
 use lib.ListN.{length, take, drop, set, length-append, length-set, take-append-drop}
 use lib.Seq.{take-set-le, drop-set-lt, drop-cons, get_or-set_same, append_snoc}
 use Rattle.print.specs.Parts.{Wrote}
-use Rattle.print.specs.Print.{character, digitsOf, width_in, width_of, decimalText, answerLine, spanLine, diffLine, labelLine}
+use Rattle.print.specs.Print.{character, digits_of, width_in, width_of, decimal_text, answer_line, span_line, diff_line, label_line}
 use Rattle.print.proofs.Writing.{join, one}
 
-pub digits-length : (base k n : ℕ) → length (digitsOf base k n) ≡ k
-unfolding digitsOf
+pub digits-length : (base k n : ℕ) → length (digits_of base k n) ≡ k
+unfolding digits_of
 digits-length base zero n = refl
 digits-length base (suc k) n = simp (length-append, digits-length base k (n / base)) (omega arith)
 
@@ -44,15 +44,15 @@ drop-set l i v h =
 
 -- one digit written, the others left
 around-step : (base : ℕ) (out : List ℕ) (at k m : ℕ) → 0 < k → at + k ≤ length out
-    → around (set out (at + (k - 1)) (character (m % base))) at (digitsOf base (k - 1) (m / base)) (k - 1)
-    ≡ around out at (digitsOf base k m) k
-unfolding digitsOf
+    → around (set out (at + (k - 1)) (character (m % base))) at (digits_of base (k - 1) (m / base)) (k - 1)
+    ≡ around out at (digits_of base k m) k
+unfolding digits_of
 around-step base out at zero m p h = absurd (omega arith)
 around-step base out at (suc k) m p h =
     let e : suc k - 1 ≡ k = omega arith in
     let s : suc (at + k) ≡ at + suc k = omega arith in
     let c = character (m % base) in
-    let x = digitsOf base k (m / base) in
+    let x = digits_of base k (m / base) in
     rw (e, take-set-le at out (at + k) c (omega arith), drop-set out (at + k) c (omega arith), s)
     (sym
     (ap (λ (l : List ℕ). l ++ drop (at + suc k) out) (sym (append_assoc (take at out) x (c ∷ [])))
@@ -62,7 +62,7 @@ around-step base out at (suc k) m p h =
 pub record Left (base : ℕ) (out : List ℕ) (at n count : ℕ) (out' : List ℕ) (m k : ℕ) : Type 0 where
   pub few : k ≤ count
   pub long : length out' ≡ length out
-  pub rest : around out' at (digitsOf base k m) k ≡ around out at (digitsOf base count n) count
+  pub rest : around out' at (digits_of base k m) k ≡ around out at (digits_of base count n) count
 
 pub all_left : (base : ℕ) (out : List ℕ) (at n count : ℕ) → Left base out at n count out n count
 all_left base out at n count = record { few = omega arith; long = refl; rest = refl }
@@ -82,14 +82,14 @@ one_less {base} {out} {at} {n} {count} {out'} {m} {k} {c} l h p e =
 -- none left, and the byte that ends them written
 pub none_left : {base : ℕ} {out : List ℕ} {at n count : ℕ} {out' : List ℕ} {m k : ℕ} (b : ℕ) → Left base out at n count out' m k
     → at + count < length out → k ≤ 0
-    → Wrote out at (digitsOf base count n ++ (b ∷ [])) (set out' (at + count) b) (at + count + 1)
-unfolding digitsOf
+    → Wrote out at (digits_of base count n ++ (b ∷ [])) (set out' (at + count) b) (at + count + 1)
+unfolding digits_of
 none_left {base} {out} {at} {n} {count} {out'} {m} {k} b l h z =
-    let d : length (digitsOf base count n) ≡ count = digits-length base count n in
+    let d : length (digits_of base count n) ≡ count = digits-length base count n in
     let g = l.long in
     let e : k ≡ 0 = omega arith in
     let none : around out' at [] 0 ≡ out' = rw (add-zero, append-nil) (take-append-drop at out') in
-    let w : Wrote out at (digitsOf base count n) out' (at + count) =
+    let w : Wrote out at (digits_of base count n) out' (at + count) =
     record { next = omega arith; room = omega arith; bytes = sym none ∙ (rw e at l.rest) ∙ rw d } in
     join w (one out' (at + count) b (omega arith))
 
@@ -148,22 +148,22 @@ width-holds n = within n n (omega arith)
 
 -- ---- how long a line is
 
-pub answer-length : (number value : ℕ) → length (answerLine number value) ≡ width_of number + 14
-unfolding answerLine decimalText
+pub answer-length : (number value : ℕ) → length (answer_line number value) ≡ width_of number + 14
+unfolding answer_line decimal_text
 answer-length number value =
     simp (length-append, digits-length 10 (width_of number) number, digits-length 16 8 value) (omega arith)
 
-pub span-length : (start end rights : ℕ) → length (spanLine start end rights) ≡ 40
-unfolding spanLine
+pub span-length : (start end rights : ℕ) → length (span_line start end rights) ≡ 40
+unfolding span_line
 span-length start end rights =
     simp (length-append, digits-length 16 8 start, digits-length 16 8 end, digits-length 16 16 rights)
 
-pub diff-length : (start end old new count : ℕ) → length (diffLine start end old new count) ≡ width_of count + 58
-unfolding diffLine decimalText
+pub diff-length : (start end old new count : ℕ) → length (diff_line start end old new count) ≡ width_of count + 58
+unfolding diff_line decimal_text
 diff-length start end old new count =
     simp (length-append, digits-length 16 8 start, digits-length 16 8 end, digits-length 16 16 old, digits-length 16 16 new, digits-length 10 (width_of count) count)
     (omega arith)
 
-pub label-length : (label : List ℕ) (n : ℕ) → length (labelLine label n) ≡ length label + width_of n + 1
-unfolding labelLine decimalText
+pub label-length : (label : List ℕ) (n : ℕ) → length (label_line label n) ≡ length label + width_of n + 1
+unfolding label_line decimal_text
 label-length label n = simp (length-append, digits-length 10 (width_of n) n) (omega arith)

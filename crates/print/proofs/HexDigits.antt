@@ -6,7 +6,7 @@ use native.Mathlib.Omega.{arith}
 use lib.ListN.{length}
 use lib.Bits.{bit_and, and_high, and_le_l, and_le_r, and_mask}
 use Rattle.print.specs.Bytes.{bytes}
-use Rattle.print.specs.Print.{character, digitsOf}
+use Rattle.print.specs.Print.{character, digits_of}
 use Rattle.print.proofs.Digits.{character-is}
 use Rattle.print.proofs.Lanes.{lanes, lanes-same, and-lanes}
 
@@ -17,8 +17,8 @@ pairs : List ℕ → List ℕ
 pairs [] = []
 pairs (x ∷ xs) = x / 16 ∷ x ∷ pairs xs
 
-abbrev bytesIn : List ℕ → ℕ
-bytesIn xs = lanes 16 (λ x. x % 256) xs
+abbrev bytes_in : List ℕ → ℕ
+bytes_in xs = lanes 16 (λ x. x % 256) xs
 
 abbrev highs : List ℕ → ℕ
 highs xs = lanes 16 (λ x. x % 256 / 16) xs
@@ -26,15 +26,15 @@ highs xs = lanes 16 (λ x. x % 256 / 16) xs
 abbrev lows : List ℕ → ℕ
 lows xs = lanes 16 (λ x. x % 256 % 16) xs
 
-abbrev digitsIn : List ℕ → ℕ
-digitsIn ds = lanes 8 (λ d. d % 16) ds
+abbrev digits_in : List ℕ → ℕ
+digits_in ds = lanes 8 (λ d. d % 16) ds
 
-parted : (xs : List ℕ) → bytesIn xs ≡ highs xs * 16 + lows xs
+parted : (xs : List ℕ) → bytes_in xs ≡ highs xs * 16 + lows xs
 unfolding lanes
 parted [] = refl
 parted (x ∷ xs) = omega (arith, parted xs)
 
-apart : (xs : List ℕ) → highs xs + lows xs * 256 ≡ digitsIn (pairs xs)
+apart : (xs : List ℕ) → highs xs + lows xs * 256 ≡ digits_in (pairs xs)
 unfolding lanes pairs
 apart [] = refl
 apart (x ∷ xs) =
@@ -42,12 +42,12 @@ apart (x ∷ xs) =
     let low : x % 256 % 16 ≡ x % 16 = omega arith in
     omega (arith, apart xs, high, low)
 
-low_mask : (xs : List ℕ) → bit_and (bytesIn xs) (lanes 16 (λ x. 15) xs) ≡ lows xs
+low_mask : (xs : List ℕ) → bit_and (bytes_in xs) (lanes 16 (λ x. 15) xs) ≡ lows xs
 low_mask xs = and-lanes 16 15 _ _ (omega arith) (λ x. omega arith) (λ x. and_mask (x % 256) 4) xs
 
-digits_are : (xs : List ℕ) → (bytesIn xs - lows xs) / 16 + lows xs * 256 ≡ digitsIn (pairs xs)
+digits_are : (xs : List ℕ) → (bytes_in xs - lows xs) / 16 + lows xs * 256 ≡ digits_in (pairs xs)
 digits_are xs =
-    let e : (bytesIn xs - lows xs) / 16 ≡ highs xs = omega (arith, parted xs) in
+    let e : (bytes_in xs - lows xs) / 16 ≡ highs xs = omega (arith, parted xs) in
     omega (arith, e, apart xs)
 
 -- ---- characters
@@ -56,7 +56,7 @@ digits_are xs =
 abbrev letter : ℕ → ℕ
 letter d = (d % 16 + 6) / 16
 
-added : (ds : List ℕ) → digitsIn ds + lanes 8 (λ d. 6) ds ≡ lanes 8 (λ d. d % 16 + 6) ds
+added : (ds : List ℕ) → digits_in ds + lanes 8 (λ d. 6) ds ≡ lanes 8 (λ d. d % 16 + 6) ds
 unfolding lanes
 added [] = refl
 added (d ∷ ds) = omega (arith, added ds)
@@ -66,22 +66,22 @@ unfolding lanes
 sixteenth [] = refl
 sixteenth (d ∷ ds) = omega (arith, sixteenth ds)
 
-letters-are : (ds : List ℕ) → bit_and (digitsIn ds + lanes 8 (λ d. 6) ds) (lanes 8 (λ d. 16) ds) / 16 ≡ lanes 8 letter ds
+letters-are : (ds : List ℕ) → bit_and (digits_in ds + lanes 8 (λ d. 6) ds) (lanes 8 (λ d. 16) ds) / 16 ≡ lanes 8 letter ds
 letters-are ds =
     let m : (d : ℕ) → bit_and (d % 16 + 6) 16 ≡ letter d * 16 = λ d. and_high (d % 16 + 6) 1 4 ∙ omega arith in
     let e : bit_and (lanes 8 (λ d. d % 16 + 6) ds) (lanes 8 (λ d. 16) ds) ≡ lanes 8 (λ d. letter d * 16) ds =
     and-lanes 8 16 _ _ (omega arith) (λ d. omega arith) m ds in
     rw (added ds, e, sixteenth ds) (omega arith)
 
-abbrev characterOf : ℕ → ℕ
-characterOf d = character (d % 16)
+abbrev character_of : ℕ → ℕ
+character_of d = character (d % 16)
 
-summed : (ds : List ℕ) → digitsIn ds + lanes 8 (λ d. 48) ds + 39 * lanes 8 letter ds ≡ lanes 8 (λ d. 48 + d % 16 + 39 * letter d) ds
+summed : (ds : List ℕ) → digits_in ds + lanes 8 (λ d. 48) ds + 39 * lanes 8 letter ds ≡ lanes 8 (λ d. 48 + d % 16 + 39 * letter d) ds
 unfolding lanes
 summed [] = refl
 summed (d ∷ ds) = omega (arith, summed ds)
 
-word-is : (ds : List ℕ) → digitsIn ds + lanes 8 (λ d. 48) ds + 39 * lanes 8 letter ds ≡ lanes 8 characterOf ds
+word-is : (ds : List ℕ) → digits_in ds + lanes 8 (λ d. 48) ds + 39 * lanes 8 letter ds ≡ lanes 8 character_of ds
 word-is ds = summed ds ∙ lanes-same 8 _ _ (λ d. character-is (d % 16) (omega arith)) ds
 
 -- ---- bytes
@@ -93,19 +93,19 @@ bytes_of (suc k) w = w % 256 ∷ bytes_of k (w / 256)
 
 characters : List ℕ → List ℕ
 characters [] = []
-characters (d ∷ ds) = characterOf d ∷ characters ds
+characters (d ∷ ds) = character_of d ∷ characters ds
 
-few : (d : ℕ) → characterOf d < 256
+few : (d : ℕ) → character_of d < 256
 few d = rw (← character-is (d % 16) (omega arith)) (omega arith)
 
-bytes-are : (ds : List ℕ) → bytes_of (length ds) (lanes 8 characterOf ds) ≡ characters ds
+bytes-are : (ds : List ℕ) → bytes_of (length ds) (lanes 8 character_of ds) ≡ characters ds
 unfolding lanes bytes_of characters
 bytes-are [] = refl
 bytes-are (d ∷ ds) =
-    let w = lanes 8 characterOf ds in
-    let low : (w * 256 + characterOf d) % 256 ≡ characterOf d = omega (arith, few d) in
-    let high : (w * 256 + characterOf d) / 256 ≡ w = omega (arith, few d) in
-    rw (low, high) (ap (λ (l : List ℕ). characterOf d ∷ l) (bytes-are ds))
+    let w = lanes 8 character_of ds in
+    let low : (w * 256 + character_of d) % 256 ≡ character_of d = omega (arith, few d) in
+    let high : (w * 256 + character_of d) / 256 ≡ w = omega (arith, few d) in
+    rw (low, high) (ap (λ (l : List ℕ). character_of d ∷ l) (bytes-are ds))
 
 -- all eight, each taken from the word itself
 abbrev pub eight : ℕ → List ℕ
@@ -169,7 +169,7 @@ module _ (n : ℕ) where
   pub letters-most : letters ≤ 0x0101_0101_0101_0101
   letters-most = omega (arith, and_le_r (digits + 0x0606_0606_0606_0606) 0x1010_1010_1010_1010)
 
-  bytes-is : together ≡ bytesIn xs
+  bytes-is : together ≡ bytes_in xs
   unfolding lanes
   bytes-is = omega arith
 
@@ -177,39 +177,39 @@ module _ (n : ℕ) where
   unfolding lanes
   low-is = rw bytes-is (low_mask xs)
 
-  digits-is : digits ≡ digitsIn (pairs xs)
+  digits-is : digits ≡ digits_in (pairs xs)
   digits-is = rw (low-is, bytes-is) (digits_are xs)
 
   letters-is : letters ≡ lanes 8 letter (pairs xs)
   unfolding lanes pairs
   letters-is = rw digits-is (letters-are (pairs xs))
 
-  word_of : word ≡ lanes 8 characterOf (pairs xs)
+  word_of : word ≡ lanes 8 character_of (pairs xs)
   unfolding lanes pairs
   word_of = rw (letters-is, digits-is) (word-is (pairs xs))
 
-  digits-all : characters (pairs xs) ≡ digitsOf 16 8 n
-  unfolding characters pairs digitsOf
+  digits-all : characters (pairs xs) ≡ digits_of 16 8 n
+  unfolding characters pairs digits_of
   digits-all =
       let second : n / 16 / 16 ≡ n / 0x100 = omega arith in
       let fourth : n / 0x100 / 16 / 16 ≡ n / 0x1_0000 = omega arith in
       let sixth : n / 0x1_0000 / 16 / 16 ≡ n / 0x100_0000 = omega arith in
       rw (second, fourth, sixth)
 
-  pub hex-digits : eight word ≡ digitsOf 16 8 n
+  pub hex-digits : eight word ≡ digits_of 16 8 n
   unfolding bytes_of pairs
   hex-digits = eight_are word ∙ rw word_of (bytes-are (pairs xs)) ∙ digits-all
 
 -- sixteen digits are twice eight
-pub sixteen-digits : (n : ℕ) → digitsOf 16 16 n ≡ digitsOf 16 8 (n / 0x1_0000_0000) ++ digitsOf 16 8 n
-unfolding digitsOf
+pub sixteen-digits : (n : ℕ) → digits_of 16 16 n ≡ digits_of 16 8 (n / 0x1_0000_0000) ++ digits_of 16 8 n
+unfolding digits_of
 sixteen-digits n =
     let e : n / 16 / 16 / 16 / 16 / 16 / 16 / 16 / 16 ≡ n / 0x1_0000_0000 = omega arith in
     rw e
 
 -- a number below ten is its decimal digit behind seven zeros
-pub single-digit : (n : ℕ) → n < 10 → digitsOf 16 8 n ≡ bytes "0000000" ++ digitsOf 10 1 n
-unfolding digitsOf
+pub single-digit : (n : ℕ) → n < 10 → digits_of 16 8 n ≡ bytes "0000000" ++ digits_of 10 1 n
+unfolding digits_of
 single-digit n h =
     let z : n / 16 ≡ 0 = omega arith in
     let e : n % 16 ≡ n % 10 = omega arith in

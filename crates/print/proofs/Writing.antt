@@ -7,7 +7,7 @@ use native.Mathlib.Omega.{arith}
 use borrow.Author.Tests.{le-leb, lt-leb}
 use lib.ListN.{length, take, drop, set, length-append}
 use lib.Seq.{length-take-le, take-length, take_at, drop-append-add, drop-drop, set_split, append_snoc, paste, length-paste}
-use Rattle.print.specs.Writing.{over, bytesWith, placeWith}
+use Rattle.print.specs.Writing.{over, bytes_with, place_with}
 use Rattle.print.specs.Parts.{Wrote}
 
 -- `over` is lib.Seq's paste of the whole part
@@ -65,15 +65,15 @@ one out at b h =
     }
 
 pub whole : {out out' : List ℕ} {at p : ℕ} {line : List ℕ} → Wrote out at line out' p
-    → (p ≡ placeWith out at line) × (out' ≡ bytesWith out at line)
-unfolding placeWith bytesWith
+    → (p ≡ place_with out at line) × (out' ≡ bytes_with out at line)
+unfolding place_with bytes_with
 whole {out} {out'} {at} {p} {line} w =
     let e = le-leb (at + length line) (length out) (omega (arith, w.next, w.room)) in
     (rw e w.next, rw e w.bytes)
 
 pub refused : (out : List ℕ) (at : ℕ) (line : List ℕ) → length out < at + length line
-    → (at ≡ placeWith out at line) × (out ≡ bytesWith out at line)
-unfolding placeWith bytesWith
+    → (at ≡ place_with out at line) × (out ≡ bytes_with out at line)
+unfolding place_with bytes_with
 refused out at line h =
     let e = lt-leb (at + length line) (length out) h in
     (rw e, rw e)

@@ -10,13 +10,13 @@ abbrev pub character : ℕ → ℕ
 character d = cond (ltb d 10) (code "0" + d) (code "a" + (d - 10))
 
 -- the last k digits of n
-unfoldable pub digitsOf : ℕ → ℕ → ℕ → List ℕ
-digitsOf base zero n = []
-digitsOf base (suc k) n = digitsOf base k (n / base) ++ (character (n % base) ∷ [])
+unfoldable pub digits_of : ℕ → ℕ → ℕ → List ℕ
+digits_of base zero n = []
+digits_of base (suc k) n = digits_of base k (n / base) ++ (character (n % base) ∷ [])
 
 -- k hexadecimal digits; 8 are those of the low 32 bits
-abbrev pub hexText : ℕ → ℕ → List ℕ
-hexText k n = digitsOf 16 k n
+abbrev pub hex_text : ℕ → ℕ → List ℕ
+hex_text k n = digits_of 16 k n
 
 -- how many decimal digits n has, found in as many steps
 unfoldable pub width_in : ℕ → ℕ → ℕ
@@ -29,38 +29,38 @@ width_in (suc steps) n =
 unfoldable pub width_of : ℕ → ℕ
 width_of n = width_in n n
 
-unfoldable pub decimalText : ℕ → List ℕ
-decimalText n = digitsOf 10 (width_of n) n
+unfoldable pub decimal_text : ℕ → List ℕ
+decimal_text n = digits_of 10 (width_of n) n
 
 -- ---- lines
 
 -- `ans`, number, value
-unfoldable pub answerLine : ℕ → ℕ → List ℕ
-answerLine number value = bytes "ans\t" ++ (decimalText number ++ bytes "\t") ++ (hexText 8 value ++ bytes "\n")
+unfoldable pub answer_line : ℕ → ℕ → List ℕ
+answer_line number value = bytes "ans\t" ++ (decimal_text number ++ bytes "\t") ++ (hex_text 8 value ++ bytes "\n")
 
 -- `span`, start, end, rights
-unfoldable pub spanLine : ℕ → ℕ → ℕ → List ℕ
-spanLine start end rights =
-    bytes "span\t" ++ (hexText 8 start ++ bytes "\t") ++ (hexText 8 end ++ bytes "\t") ++ (hexText 16 rights ++ bytes "\n")
+unfoldable pub span_line : ℕ → ℕ → ℕ → List ℕ
+span_line start end rights =
+    bytes "span\t" ++ (hex_text 8 start ++ bytes "\t") ++ (hex_text 8 end ++ bytes "\t") ++ (hex_text 16 rights ++ bytes "\n")
 
 -- two numbers of k hexadecimal digits, a tab behind each
-abbrev pub hexPair : ℕ → ℕ → ℕ → List ℕ
-hexPair k x y = (hexText k x ++ bytes "\t") ++ (hexText k y ++ bytes "\t")
+abbrev pub hex_pair : ℕ → ℕ → ℕ → List ℕ
+hex_pair k x y = (hex_text k x ++ bytes "\t") ++ (hex_text k y ++ bytes "\t")
 
 -- `diff`, start, end, old, new, count: document 02, Q-1, "start, end, old, new as in `span`, decimal count, parted by tabs"
-unfoldable pub diffLine : ℕ → ℕ → ℕ → ℕ → ℕ → List ℕ
-diffLine start end old new count =
-    bytes "diff\t" ++ hexPair 8 start end ++ hexPair 16 old new ++ (decimalText count ++ bytes "\n")
+unfoldable pub diff_line : ℕ → ℕ → ℕ → ℕ → ℕ → List ℕ
+diff_line start end old new count =
+    bytes "diff\t" ++ hex_pair 8 start end ++ hex_pair 16 old new ++ (decimal_text count ++ bytes "\n")
 
 -- a label and a number
-unfoldable pub labelLine : List ℕ → ℕ → List ℕ
-labelLine label n = label ++ (decimalText n ++ bytes "\n")
+unfoldable pub label_line : List ℕ → ℕ → List ℕ
+label_line label n = label ++ (decimal_text n ++ bytes "\n")
 
-abbrev pub guardLine : ℕ → List ℕ
-guardLine n = labelLine (bytes "guard\t") n
+abbrev pub guard_line : ℕ → List ℕ
+guard_line n = label_line (bytes "guard\t") n
 
-abbrev pub endLine : ℕ → List ℕ
-endLine count = labelLine (bytes "end\t") count
+abbrev pub end_line : ℕ → List ℕ
+end_line count = label_line (bytes "end\t") count
 
-abbrev pub badLine : ℕ → List ℕ
-badLine number = labelLine (bytes "bad\t") number
+abbrev pub bad_line : ℕ → List ℕ
+bad_line number = label_line (bytes "bad\t") number

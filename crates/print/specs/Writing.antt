@@ -10,9 +10,9 @@ abbrev pub room_for : List ℕ → ℕ → List ℕ → Bool
 room_for out at line = leb (at + length line) (length out)
 
 -- what the buffer holds: where there is no room, what it held
-unfoldable pub bytesWith : List ℕ → ℕ → List ℕ → List ℕ
-bytesWith out at line = cond (room_for out at line) (over out at line) out
+unfoldable pub bytes_with : List ℕ → ℕ → List ℕ → List ℕ
+bytes_with out at line = cond (room_for out at line) (over out at line) out
 
 -- the next place: where there is no room, the same
-unfoldable pub placeWith : List ℕ → ℕ → List ℕ → ℕ
-placeWith out at line = cond (room_for out at line) (at + length line) at
+unfoldable pub place_with : List ℕ → ℕ → List ℕ → ℕ
+place_with out at line = cond (room_for out at line) (at + length line) at

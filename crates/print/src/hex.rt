@@ -1,6 +1,6 @@
 // The hexadecimal digits of a number, eight at once in the bytes of a word.
 ghost use Rattle.std.specs.Prelude.{◌≡◌};
-ghost use Rattle.print.specs.Print.{hexText};
+ghost use Rattle.print.specs.Print.{hex_text};
 
 // The lower digit of each of four bytes, 16 bits apart.
 const LOW_DIGITS: u64 = 0x000f_000f_000f_000f;
@@ -20,7 +20,7 @@ const LETTERS: u64 = 39;
 // The last eight hexadecimal digits of n: its last four bytes are put 16 bits apart, the first lowest, each is parted into its two
 // digits, and all digits become characters. The eight bytes of the last word are stored together.
 pub(crate) fn hex_digits(n: u64) -> [u8; 8]
-    ensures { result ≡ hexText 8 n }
+    ensures { result ≡ hex_text 8 n }
 {
     let first = n / 0x100_0000 % 256 + n / 0x1_0000 % 256 * 0x1_0000;
     let second = n / 0x100 % 256 + n % 256 * 0x1_0000;

@@ -1,17 +1,17 @@
 ghost use Rattle.std.specs.Prelude.{[], ◌∷◌, ◌++◌, ◌≡◌, ◌+◌, ◌≤◌, ◌<◌, length};
 ghost use Rattle.print.specs.Print.{
-  answerLine,
-  badLine,
-  diffLine,
-  digitsOf,
-  endLine,
-  guardLine,
-  hexText,
-  labelLine,
-  spanLine,
+  answer_line,
+  bad_line,
+  diff_line,
+  digits_of,
+  end_line,
+  guard_line,
+  hex_text,
+  label_line,
+  span_line,
   width_of,
 };
-ghost use Rattle.print.specs.Writing.{bytesWith, placeWith};
+ghost use Rattle.print.specs.Writing.{bytes_with, place_with};
 ghost use Rattle.print.specs.Parts.{Wrote};
 
 use crate::hex::hex_digits;
@@ -33,7 +33,7 @@ fn put(out: &mut [u8], at: usize, bytes: &[u8]) -> usize
 // Writes the last `count` decimal digits of n, and the byte that ends them, from `at` on. The place after them.
 fn put_digits(out: &mut [u8], at: usize, n: u64, count: usize, end: u8) -> usize
     requires { at + count < length out.old }
-    ensures { Wrote out.old at (digitsOf 10 count n ++ (end ∷ [])) out.new result }
+    ensures { Wrote out.old at (digits_of 10 count n ++ (end ∷ [])) out.new result }
 {
     let mut m = n;
     let mut k = count;
@@ -49,7 +49,7 @@ fn put_digits(out: &mut [u8], at: usize, n: u64, count: usize, end: u8) -> usize
 // Writes the last eight hexadecimal digits of n, and the byte that ends them, from `at` on. The place after them.
 fn put_hex(out: &mut [u8], at: usize, n: u64, end: u8) -> usize
     requires { at + 9 ≤ length out.old }
-    ensures { Wrote out.old at (hexText 8 n ++ (end ∷ [])) out.new result }
+    ensures { Wrote out.old at (hex_text 8 n ++ (end ∷ [])) out.new result }
 {
     let a = put(out, at, &hex_digits(n));
     out[a] = end;
@@ -59,7 +59,7 @@ fn put_hex(out: &mut [u8], at: usize, n: u64, end: u8) -> usize
 // The same with sixteen digits.
 fn put_rights(out: &mut [u8], at: usize, rights: u64, end: u8) -> usize
     requires { at + 17 ≤ length out.old }
-    ensures { Wrote out.old at (hexText 16 rights ++ (end ∷ [])) out.new result }
+    ensures { Wrote out.old at (hex_text 16 rights ++ (end ∷ [])) out.new result }
 {
     let a = put(out, at, &hex_digits(rights / 0x1_0000_0000));
     put_hex(out, a, rights, end)
@@ -68,7 +68,7 @@ fn put_rights(out: &mut [u8], at: usize, rights: u64, end: u8) -> usize
 // Writes an answer's value, and the line feed, from `at` on. The place after them. Most values are a single digit.
 fn put_value(out: &mut [u8], at: usize, value: u32) -> usize
     requires { at + 9 ≤ length out.old }
-    ensures { Wrote out.old at (hexText 8 value ++ (10 ∷ [])) out.new result }
+    ensures { Wrote out.old at (hex_text 8 value ++ (10 ∷ [])) out.new result }
 {
     if value < 10 {
         let a = put(out, at, b"0000000");
@@ -92,8 +92,8 @@ fn width(n: u64) -> usize
 
 // A label and a number.
 fn print_labelled(out: &mut [u8], at: usize, label: &[u8], n: u64) -> usize
-    ensures next { result ≡ placeWith out.old at (labelLine label.now n) }
-    ensures bytes { out.new ≡ bytesWith out.old at (labelLine label.now n) }
+    ensures next { result ≡ place_with out.old at (label_line label.now n) }
+    ensures bytes { out.new ≡ bytes_with out.old at (label_line label.now n) }
 {
     let count = width(n);
     if out.len() < at {
@@ -111,8 +111,8 @@ fn print_labelled(out: &mut [u8], at: usize, label: &[u8], n: u64) -> usize
 
 // `ans`, number, value.
 pub fn print_answer(out: &mut [u8], at: usize, number: u64, value: u32) -> usize
-    ensures next { result ≡ placeWith out.old at (answerLine number value) }
-    ensures bytes { out.new ≡ bytesWith out.old at (answerLine number value) }
+    ensures next { result ≡ place_with out.old at (answer_line number value) }
+    ensures bytes { out.new ≡ bytes_with out.old at (answer_line number value) }
 {
     let count = width(number);
     if out.len() < at {
@@ -132,8 +132,8 @@ const SPAN_LENGTH: usize = 40;
 // `span`, start, end, rights. Of start and end the low 32 bits are printed. The room is what the place is compared with, so that a
 // loop works it out once.
 pub fn print_span(out: &mut [u8], at: usize, start: u64, end: u64, rights: u64) -> usize
-    ensures next { result ≡ placeWith out.old at (spanLine start end rights) }
-    ensures bytes { out.new ≡ bytesWith out.old at (spanLine start end rights) }
+    ensures next { result ≡ place_with out.old at (span_line start end rights) }
+    ensures bytes { out.new ≡ bytes_with out.old at (span_line start end rights) }
 {
     if out.len() < SPAN_LENGTH {
         return at;
@@ -157,8 +157,8 @@ pub fn print_diff(
     new: u64,
     count: u64,
 ) -> usize
-    ensures next { result ≡ placeWith out.old at (diffLine start end old new count) }
-    ensures bytes { out.new ≡ bytesWith out.old at (diffLine start end old new count) }
+    ensures next { result ≡ place_with out.old at (diff_line start end old new count) }
+    ensures bytes { out.new ≡ bytes_with out.old at (diff_line start end old new count) }
 {
     let digits = width(count);
     if out.len() < at {
@@ -177,24 +177,24 @@ pub fn print_diff(
 
 // `guard`, n.
 pub fn print_guard(out: &mut [u8], at: usize, n: GuardNumber) -> usize
-    ensures next { result ≡ placeWith out.old at (guardLine n.0) }
-    ensures bytes { out.new ≡ bytesWith out.old at (guardLine n.0) }
+    ensures next { result ≡ place_with out.old at (guard_line n.0) }
+    ensures bytes { out.new ≡ bytes_with out.old at (guard_line n.0) }
 {
     print_labelled(out, at, b"guard\t", n.0 as u64)
 }
 
 // `end`, the count of spans.
 pub fn print_end(out: &mut [u8], at: usize, count: u64) -> usize
-    ensures next { result ≡ placeWith out.old at (endLine count) }
-    ensures bytes { out.new ≡ bytesWith out.old at (endLine count) }
+    ensures next { result ≡ place_with out.old at (end_line count) }
+    ensures bytes { out.new ≡ bytes_with out.old at (end_line count) }
 {
     print_labelled(out, at, b"end\t", count)
 }
 
 // `bad`, the line's number.
 pub fn print_bad(out: &mut [u8], at: usize, number: u64) -> usize
-    ensures next { result ≡ placeWith out.old at (badLine number) }
-    ensures bytes { out.new ≡ bytesWith out.old at (badLine number) }
+    ensures next { result ≡ place_with out.old at (bad_line number) }
+    ensures bytes { out.new ≡ bytes_with out.old at (bad_line number) }
 {
     print_labelled(out, at, b"bad\t", number)
 }

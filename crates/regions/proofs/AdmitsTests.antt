@@ -19,10 +19,10 @@ use Rattle.access.specs.declared.bus.Bus.TheVariants.{Axi, Ahb}
 use Rattle.access.specs.declared.kind.Kind.{Kind}
 use Rattle.access.proofs.Folds.{any_same, all_same}
 use Rattle.access.proofs.Heard.{heard-cid}
-use Rattle.regions.specs.Words.{base, sub, cidcfgrAt, enableBit, secBit, privBit, privcBit, rdenBit, wrenBit, readBit, writeBit}
-use Rattle.regions.specs.Rules.{Tests, reasonOf, covers, everyBase, everySub, srcid, workingPriv, is_default, tests0, tests1, tests2, opens, someSub, counted, covered, ruleOf, tests, decided}
+use Rattle.regions.specs.Words.{base, sub, cidcfgr_at, enable_bit, sec_bit, priv_bit, privc_bit, rden_bit, wren_bit, read_bit, write_bit}
+use Rattle.regions.specs.Rules.{Tests, reason_of, covers, every_base, every_sub, srcid, working_priv, is_default, tests0, tests1, tests2, opens, some_sub, counted, covered, rule_of, tests, decided}
 use Rattle.regions.specs.Masks.{masks, openings, Passed}
-use Rattle.regions.specs.Admits.{defaults, byDefault, byBases, bySubs, byRegions, byMasks, admitted, allIf, allAsZero, withDebugger, asHeard, admitsSecurity, testsOf, verdictOf}
+use Rattle.regions.specs.Admits.{defaults, by_default, by_bases, by_subs, by_regions, by_masks, admitted, all_if, all_as_zero, with_debugger, as_heard, admits_security, tests_of, verdict_of}
 use Rattle.regions.specs.declared.admits.Admits.{Admits}
 use Rattle.regions.specs.declared.masks.Masks.{Masks}
 use Rattle.regions.specs.declared.rules.Verdict.{Verdict}
@@ -72,13 +72,13 @@ module _ (p : Bool) (adds : ℕ → ℕ) (w : List ℕ) (n o : ℕ) (k : Kind) (
   small : c < 8
   small = omega (arith, h)
 
-  every-same : (p q : ℕ → Bool) → ((x : ℕ) → p x ≡ q x) → everyBase w n o p ≡ everyBase w n o q
+  every-same : (p q : ℕ → Bool) → ((x : ℕ) → p x ≡ q x) → every_base w n o p ≡ every_base w n o q
   every-same p q e = all_same n _ _ (λ x l. ap (λ (b : Bool). not (covers w (base x) o) || b) (e x))
 
   -- ---- rule 0
 
-  default-tests : (bus : Bus) → testsOf (byDefault bus) k ≡ tests0 bus k
-  unfolding testsOf byDefault
+  default-tests : (bus : Bus) → tests_of (by_default bus) k ≡ tests0 bus k
+  unfolding tests_of by_default
   default-tests bus = tests_same (security k.secure) (privilege k.privileged) (compartment bus k.write)
     where
       security : (s : Bool) → cond s true false ≡ s
@@ -95,40 +95,40 @@ module _ (p : Bool) (adds : ℕ → ℕ) (w : List ℕ) (n o : ℕ) (k : Kind) (
 
   -- ---- rule 1
 
-  bases-security : (s : Bool) → cond s (bit m.every secBit) (not (bit m.some secBit)) ≡ everyBase w n o (λ x. beq s (bit (get_or w (base x) 0) secBit))
-  bases-security true = every-bit p adds w o n secBit (lit< tt) ∙ every-same _ _ (λ x. beq-true (bit (get_or w (base x) 0) secBit))
+  bases-security : (s : Bool) → cond s (bit m.every sec_bit) (not (bit m.some sec_bit)) ≡ every_base w n o (λ x. beq s (bit (get_or w (base x) 0) sec_bit))
+  bases-security true = every-bit p adds w o n sec_bit (lit< tt) ∙ every-same _ _ (λ x. beq-true (bit (get_or w (base x) 0) sec_bit))
   bases-security false =
-      ap not (some-bit p adds w o n secBit) ∙ not_some n (λ x. covers w (base x) o) (λ x. bit (get_or w (base x) 0) secBit)
-      ∙ every-same _ _ (λ x. beq-false (bit (get_or w (base x) 0) secBit))
+      ap not (some-bit p adds w o n sec_bit) ∙ not_some n (λ x. covers w (base x) o) (λ x. bit (get_or w (base x) 0) sec_bit)
+      ∙ every-same _ _ (λ x. beq-false (bit (get_or w (base x) 0) sec_bit))
 
-  bases-privilege : (p : Bool) → (p || not (bit (m.some / 2 ^ 16) c)) ≡ everyBase w n o (λ x. p || not (bit (get_or w (base x) 0) (privcBit c)))
+  bases-privilege : (p : Bool) → (p || not (bit (m.some / 2 ^ 16) c)) ≡ every_base w n o (λ x. p || not (bit (get_or w (base x) 0) (privc_bit c)))
   bases-privilege true = every_true n (λ x. covers w (base x) o)
   bases-privilege false =
       ap not (bit-shr m.some 16 c ∙ some-bit p adds w o n (16 + c)) ∙ not_some n (λ x. covers w (base x) o) (λ x. bit (get_or w (base x) 0) (16 + c))
 
   -- the enables from bit `at`
   bases-enabled : (at x : ℕ) → at + c < 32 → bit x c ≡ bit m.enables (at + c)
-      → bit (bit_or x 0x80) c ≡ everyBase w n o (λ y. eqb c 7 || bit (get_or w (base y + cidcfgrAt) 0) (at + c))
+      → bit (bit_or x 0x80) c ≡ every_base w n o (λ y. eqb c 7 || bit (get_or w (base y + cidcfgr_at) 0) (at + c))
   bases-enabled at x l e =
       bit-or x 0x80 c ∙ ap₂ ◌||◌ (e ∙ enables-bit p adds w o n (at + c) l) (bit-pow 7 c) ∙ go (eqb c 7)
     where
       go : (t : Bool)
-          → (everyBase w n o (λ y. bit (get_or w (base y + cidcfgrAt) 0) (at + c)) || t)
-          ≡ everyBase w n o (λ y. t || bit (get_or w (base y + cidcfgrAt) 0) (at + c))
-      go true = or-true (everyBase w n o (λ y. bit (get_or w (base y + cidcfgrAt) 0) (at + c))) ∙ every_true n (λ y. covers w (base y) o)
-      go false = or-false (everyBase w n o (λ y. bit (get_or w (base y + cidcfgrAt) 0) (at + c)))
+          → (every_base w n o (λ y. bit (get_or w (base y + cidcfgr_at) 0) (at + c)) || t)
+          ≡ every_base w n o (λ y. t || bit (get_or w (base y + cidcfgr_at) 0) (at + c))
+      go true = or-true (every_base w n o (λ y. bit (get_or w (base y + cidcfgr_at) 0) (at + c))) ∙ every_true n (λ y. covers w (base y) o)
+      go false = or-false (every_base w n o (λ y. bit (get_or w (base y + cidcfgr_at) 0) (at + c)))
 
   bases-compartment : (d : Bool)
       → bit (cond d (bit_or (m.enables / 2 ^ 16) 0x80) (bit_or m.enables 0x80)) c
-      ≡ everyBase w n o (λ x. eqb c 7 || cond d (bit (get_or w (base x + cidcfgrAt) 0) (writeBit c)) (bit (get_or w (base x + cidcfgrAt) 0) (readBit c)))
+      ≡ every_base w n o (λ x. eqb c 7 || cond d (bit (get_or w (base x + cidcfgr_at) 0) (write_bit c)) (bit (get_or w (base x + cidcfgr_at) 0) (read_bit c)))
   bases-compartment true = bases-enabled 16 (m.enables / 2 ^ 16) (omega (arith, h)) (bit-shr m.enables 16 c)
   bases-compartment false =
       let e : 0 + c ≡ c = omega arith in
       bases-enabled 0 m.enables (omega (arith, h)) (ap (bit m.enables) (sym e))
-      ∙ every-same _ _ (λ x. ap (λ (i : ℕ). eqb c 7 || bit (get_or w (base x + cidcfgrAt) 0) i) e)
+      ∙ every-same _ _ (λ x. ap (λ (i : ℕ). eqb c 7 || bit (get_or w (base x + cidcfgr_at) 0) i) e)
 
-  pub bases-tests : testsOf (byBases m) k ≡ tests1 w n o k
-  unfolding testsOf byBases
+  pub bases-tests : tests_of (by_bases m) k ≡ tests1 w n o k
+  unfolding tests_of by_bases
   bases-tests = tests_same (bases-security k.secure) (bases-privilege k.privileged) (bases-compartment k.write)
 
   -- ---- rule 2
@@ -137,36 +137,36 @@ module _ (p : Bool) (adds : ℕ → ℕ) (w : List ℕ) (n o : ℕ) (k : Kind) (
   subs-security true b d e = beq-true b ∙ ap (beq true) e
   subs-security false b d e = beq-false b ∙ ap (beq false) e
 
-  pub all-if : (b d : Bool) → b ≡ d → bit (allIf b) c ≡ d
+  pub all-if : (b d : Bool) → b ≡ d → bit (all_if b) c ≡ d
   all-if true d e = bit-ones 8 c small ∙ e
   all-if false d e = bit-zero c ∙ e
 
   -- PRIV was looked at, or need not be
   subs-privilege : (q : Bool) → p ≡ q → (p ≡ true → k.privileged ≡ true)
-      → (k.privileged || not (bit (allIf (bit m.privileged privBit)) c)) ≡ (k.privileged || not (everySub w n o (workingPriv w)))
+      → (k.privileged || not (bit (all_if (bit m.privileged priv_bit)) c)) ≡ (k.privileged || not (every_sub w n o (working_priv w)))
   subs-privilege true e passed = rw (passed e) refl
   subs-privilege false e passed = ap (λ (b : Bool). k.privileged || not b) (all-if _ _ (privileged-bit p adds w o e n))
 
   -- with the compartments that may read and write, by what this one may
-  pub subs-tests : (p ≡ true → k.privileged ≡ true) → (reads writes : ℕ) → bit (cond k.write writes reads) c ≡ someSub w n o (opens w k) → testsOf (bySubs m reads writes) k ≡ tests2 w n o k
-  unfolding testsOf bySubs
+  pub subs-tests : (p ≡ true → k.privileged ≡ true) → (reads writes : ℕ) → bit (cond k.write writes reads) c ≡ some_sub w n o (opens w k) → tests_of (by_subs m reads writes) k ≡ tests2 w n o k
+  unfolding tests_of by_subs
   subs-tests passed reads writes e =
       tests_same (subs-security k.secure _ _ (secure-bit p adds w o n)) (subs-privilege p refl passed) e
 
 -- who may read and write, for all compartments
 abbrev reads : Masks → ℕ
-reads m = withDebugger (field m.opens (readBit 0) 8)
+reads m = with_debugger (field m.opens (read_bit 0) 8)
 
 abbrev writes : Masks → ℕ
-writes m = withDebugger (field m.opens (writeBit 0) 8)
+writes m = with_debugger (field m.opens (write_bit 0) 8)
 
 all-compartment : (w : List ℕ) (n o : ℕ) (k : Kind) → k.cid.0 ≤ 7 → (d : Bool)
     → bit (cond d (writes (masks false openings w n o)) (reads (masks false openings w n o))) k.cid.0
-    ≡ someSub w n o
+    ≡ some_sub w n o
     (λ x s.
-    (eqb (srcid w x s).0 k.cid.0 || eqb k.cid.0 7) && cond d (bit (get_or w (sub x s) 0) wrenBit) (bit (get_or w (sub x s) 0) rdenBit))
-all-compartment w n o k h true = open-bit w o 16 wrenBit (writes-right w) n k.cid.0 (omega (arith, h))
-all-compartment w n o k h false = open-bit w o 0 rdenBit (reads-right w) n k.cid.0 (omega (arith, h))
+    (eqb (srcid w x s).0 k.cid.0 || eqb k.cid.0 7) && cond d (bit (get_or w (sub x s) 0) wren_bit) (bit (get_or w (sub x s) 0) rden_bit))
+all-compartment w n o k h true = open-bit w o 16 wren_bit (writes-right w) n k.cid.0 (omega (arith, h))
+all-compartment w n o k h false = open-bit w o 0 rden_bit (reads-right w) n k.cid.0 (omega (arith, h))
 
 -- ---- which rule governs
 
@@ -198,11 +198,11 @@ module _ (w : List ℕ) (o : ℕ) where
       rw (none-counted n d.0, d.1) refl
 
 -- what one pass over all base regions finds: one that covers has its enable in CFGR
-pub masks-found : (bus : Bus) (w : List ℕ) (n o : ℕ) → byMasks bus (masks false openings w n o) ≡ admitted bus w n o
-unfolding byMasks admitted
+pub masks-found : (bus : Bus) (w : List ℕ) (n o : ℕ) → by_masks bus (masks false openings w n o) ≡ admitted bus w n o
+unfolding by_masks admitted
 masks-found bus w n o =
-    ap (λ (c : Bool). cond c (byRegions (masks false openings w n o)) (byDefault bus))
-    (some-bit false openings w o n enableBit ∙ any_same n _ _ (λ x h. own (bit (get_or w (base x) 0) enableBit) _))
+    ap (λ (c : Bool). cond c (by_regions (masks false openings w n o)) (by_default bus))
+    (some-bit false openings w o n enable_bit ∙ any_same n _ _ (λ x h. own (bit (get_or w (base x) 0) enable_bit) _))
   where
     own : (e i : Bool) → ((e && i) && e) ≡ (e && i)
     own true true = refl
@@ -213,47 +213,47 @@ masks-found bus w n o =
 
 -- of a kind of asking, as heard
 tests-is : (bus : Bus) (w : List ℕ) (n o : ℕ) (k : Kind) → k.cid.0 ≤ 7
-    → verdictOf (admitted bus w n o) k ≡ record { rule = ruleOf w n o; reason = reasonOf (tests bus w n o k) }
-unfolding verdictOf admitted byRegions byDefault byBases bySubs tests
+    → verdict_of (admitted bus w n o) k ≡ record { rule = rule_of w n o; reason = reason_of (tests bus w n o k) }
+unfolding verdict_of admitted by_regions by_default by_bases by_subs tests
 tests-is bus w n o k h = by (covered w n o) refl (counted w n o) refl
   where
     -- of either rule
-    verdict : (a : Admits) (r : ℕ) (t : Tests) → a.rule ≡ r → testsOf a k ≡ t
-        → ◌≡◌ {A = Verdict} (record { rule = a.rule; reason = reasonOf (testsOf a k) }) (record { rule = r; reason = reasonOf t })
-    verdict a r t e f = ap₂ (λ (r : ℕ) (t : Tests). record { rule = r; reason = reasonOf t }) e f
+    verdict : (a : Admits) (r : ℕ) (t : Tests) → a.rule ≡ r → tests_of a k ≡ t
+        → ◌≡◌ {A = Verdict} (record { rule = a.rule; reason = reason_of (tests_of a k) }) (record { rule = r; reason = reason_of t })
+    verdict a r t e f = ap₂ (λ (r : ℕ) (t : Tests). record { rule = r; reason = reason_of t }) e f
 
     by : (d : Bool) → covered w n o ≡ d → (c : Bool) → counted w n o ≡ c
-        → verdictOf (cond d (cond (eqb (masks false openings w n o).opens 0) (byBases (masks false openings w n o)) (bySubs (masks false openings w n o) (reads (masks false openings w n o)) (writes (masks false openings w n o)))) (byDefault bus)) k
-        ≡ record { rule = cond c 2 (cond d 1 0); reason = reasonOf (cond c (tests2 w n o k) (cond d (tests1 w n o k) (tests0 bus k))) }
+        → verdict_of (cond d (cond (eqb (masks false openings w n o).opens 0) (by_bases (masks false openings w n o)) (by_subs (masks false openings w n o) (reads (masks false openings w n o)) (writes (masks false openings w n o)))) (by_default bus)) k
+        ≡ record { rule = cond c 2 (cond d 1 0); reason = reason_of (cond c (tests2 w n o k) (cond d (tests1 w n o k) (tests0 bus k))) }
     by true e true f =
-        ap (λ (b : Bool). verdictOf (cond b (byBases (masks false openings w n o)) (bySubs (masks false openings w n o) (reads (masks false openings w n o)) (writes (masks false openings w n o)))) k) (not-true (eqb (masks false openings w n o).opens 0) (counted_is w n o ∙ f))
-        ∙ verdict (bySubs (masks false openings w n o) (reads (masks false openings w n o)) (writes (masks false openings w n o))) 2 (tests2 w n o k) refl (subs-tests false openings w n o k h (λ e. absurd (true≢false (sym e))) _ _ (all-compartment w n o k h k.write))
+        ap (λ (b : Bool). verdict_of (cond b (by_bases (masks false openings w n o)) (by_subs (masks false openings w n o) (reads (masks false openings w n o)) (writes (masks false openings w n o)))) k) (not-true (eqb (masks false openings w n o).opens 0) (counted_is w n o ∙ f))
+        ∙ verdict (by_subs (masks false openings w n o) (reads (masks false openings w n o)) (writes (masks false openings w n o))) 2 (tests2 w n o k) refl (subs-tests false openings w n o k h (λ e. absurd (true≢false (sym e))) _ _ (all-compartment w n o k h k.write))
     by true e false f =
-        ap (λ (b : Bool). verdictOf (cond b (byBases (masks false openings w n o)) (bySubs (masks false openings w n o) (reads (masks false openings w n o)) (writes (masks false openings w n o)))) k) (not-false (eqb (masks false openings w n o).opens 0) (counted_is w n o ∙ f))
-        ∙ verdict (byBases (masks false openings w n o)) 1 (tests1 w n o k) refl (bases-tests false openings w n o k h)
+        ap (λ (b : Bool). verdict_of (cond b (by_bases (masks false openings w n o)) (by_subs (masks false openings w n o) (reads (masks false openings w n o)) (writes (masks false openings w n o)))) k) (not-false (eqb (masks false openings w n o).opens 0) (counted_is w n o ∙ f))
+        ∙ verdict (by_bases (masks false openings w n o)) 1 (tests1 w n o k) refl (bases-tests false openings w n o k h)
     by false e true f = absurd (true≢false (sym f ∙ none-counted w o n e))
-    by false e false f = verdict (byDefault bus) 0 (tests0 bus k) refl (default-tests false openings w n o k h bus)
+    by false e false f = verdict (by_default bus) 0 (tests0 bus k) refl (default-tests false openings w n o k h bus)
 
 pub verdict-is : (bus : Bus) (w : List ℕ) (n o : ℕ) (k : Kind) → k.cid.0 ≤ 7
-    → verdictOf (admitted bus w n o) (heard bus k) ≡ decided bus w n o k
+    → verdict_of (admitted bus w n o) (heard bus k) ≡ decided bus w n o k
 unfolding decided
 verdict-is bus w n o k h = tests-is bus w n o (heard bus k) (heard-cid bus k h)
 
 -- the tests as the bus hears them, of a kind of asking
-pub as-heard : (bus : Bus) (a : Admits) (k : Kind) → k.cid.0 ≤ 7 → verdictOf (asHeard bus a) k ≡ verdictOf a (heard bus k)
-unfolding verdictOf testsOf asHeard
+pub as-heard : (bus : Bus) (a : Admits) (k : Kind) → k.cid.0 ≤ 7 → verdict_of (as_heard bus a) k ≡ verdict_of a (heard bus k)
+unfolding verdict_of tests_of as_heard
 as-heard Axi a k h = refl
 as-heard Ahb a k h =
-    ap (λ (t : Tests). record { rule = a.rule; reason = reasonOf t })
-    (tests_same {a = admitsSecurity a k.secure} refl (ap (λ (b : Bool). k.privileged || not b) (as-zero a.closed)) (opened k.write))
+    ap (λ (t : Tests). record { rule = a.rule; reason = reason_of t })
+    (tests_same {a = admits_security a k.secure} refl (ap (λ (b : Bool). k.privileged || not b) (as-zero a.closed)) (opened k.write))
   where
-    as-zero : (x : ℕ) → bit (allAsZero x) k.cid.0 ≡ bit x 0
+    as-zero : (x : ℕ) → bit (all_as_zero x) k.cid.0 ≡ bit x 0
     as-zero x = go (bit x 0)
       where
         go : (b : Bool) → bit (cond b 0xff 0) k.cid.0 ≡ b
         go true = bit-ones 8 k.cid.0 (omega (arith, h))
         go false = bit-zero k.cid.0
 
-    opened : (d : Bool) → bit (cond d (allAsZero a.writes) (allAsZero a.reads)) k.cid.0 ≡ bit (cond d a.writes a.reads) 0
+    opened : (d : Bool) → bit (cond d (all_as_zero a.writes) (all_as_zero a.reads)) k.cid.0 ≡ bit (cond d a.writes a.reads) 0
     opened true = as-zero a.writes
     opened false = as-zero a.reads

@@ -16,10 +16,10 @@ use Rattle.access.specs.declared.bus.Bus.{Bus}
 use Rattle.access.specs.declared.bus.Bus.TheVariants.{Axi}
 use Rattle.access.specs.declared.kind.Kind.{Kind}
 use Rattle.access.proofs.Folds.{any_same}
-use Rattle.regions.specs.Words.{sub, srcidBit, rdenBit, wrenBit}
-use Rattle.regions.specs.Rules.{Tests, reasonOf, ruleOf, covers, counts, srcid, opens, someSub, counted, covered, tests0, tests1, tests2, tests, decided}
-use Rattle.regions.specs.Masks.{Next, masks, subGathered, serving, servedBy}
-use Rattle.regions.specs.Admits.{allIf, byAsked, byBases, bySubs, governed, packed, testsOf, verdictOf}
+use Rattle.regions.specs.Words.{sub, srcid_bit, rden_bit, wren_bit}
+use Rattle.regions.specs.Rules.{Tests, reason_of, rule_of, covers, counts, srcid, opens, some_sub, counted, covered, tests0, tests1, tests2, tests, decided}
+use Rattle.regions.specs.Masks.{Next, masks, sub_gathered, serving, served_by}
+use Rattle.regions.specs.Admits.{all_if, by_asked, by_bases, by_subs, governed, packed, tests_of, verdict_of}
 use Rattle.regions.specs.declared.masks.Masks.{Masks}
 use Rattle.regions.specs.declared.masks.Served.{Served}
 use Rattle.regions.specs.declared.rules.Verdict.{Verdict}
@@ -30,26 +30,26 @@ use Rattle.regions.proofs.Openings.{all-at, beq-is}
 -- ---- a subregion's CFGR
 
 -- the enable of a direction
-abbrev pub denOf : Bool → ℕ
-denOf write = cond write wrenBit rdenBit
+abbrev pub den_of : Bool → ℕ
+den_of write = cond write wren_bit rden_bit
 
 -- a CFGR with an SRCID that serves compartment c
-abbrev isServed : ℕ → ℕ → Bool
-isServed c cfgr = eqb (bit_and cfgr (servedBy c).mask) (servedBy c).srcid
+abbrev is_served : ℕ → ℕ → Bool
+is_served c cfgr = eqb (bit_and cfgr (served_by c).mask) (served_by c).srcid
 
 -- the bits of the mask: SRCID where it lies, or none
-in_place : (cfgr c : ℕ) → bit_and cfgr (servedBy c).mask ≡ cond (eqb c 7) 0 (field cfgr srcidBit 3 * 2 ^ srcidBit)
+in_place : (cfgr c : ℕ) → bit_and cfgr (served_by c).mask ≡ cond (eqb c 7) 0 (field cfgr srcid_bit 3 * 2 ^ srcid_bit)
 in_place cfgr c = by (eqb c 7)
   where
     by : (t : Bool)
-        → bit_and cfgr (cond {A = Served} t (record { mask = 0; srcid = 0 }) (record { mask = (2 ^ 3 - 1) * 2 ^ srcidBit; srcid = c * 2 ^ srcidBit % 2 ^ 32 })).mask
-        ≡ cond t 0 (field cfgr srcidBit 3 * 2 ^ srcidBit)
+        → bit_and cfgr (cond {A = Served} t (record { mask = 0; srcid = 0 }) (record { mask = (2 ^ 3 - 1) * 2 ^ srcid_bit; srcid = c * 2 ^ srcid_bit % 2 ^ 32 })).mask
+        ≡ cond t 0 (field cfgr srcid_bit 3 * 2 ^ srcid_bit)
     by true = and_zero_r cfgr
-    by false = and_high cfgr 3 srcidBit
+    by false = and_high cfgr 3 srcid_bit
 
 -- that SRCID i, in its place, serves compartment c, by a test that computes
 abbrev serves : ℕ → ℕ → Bool
-serves c i = eqb (cond (eqb c 7) 0 (i * 2 ^ srcidBit)) (servedBy c).srcid
+serves c i = eqb (cond (eqb c 7) 0 (i * 2 ^ srcid_bit)) (served_by c).srcid
 
 abbrev agrees : ℕ → ℕ → Bool
 agrees c i = beq (serves c i) (eqb i c || eqb c 7)
@@ -57,14 +57,14 @@ agrees c i = beq (serves c i) (eqb i c || eqb c 7)
 all-agree : all 8 (λ c. all 8 (agrees c)) ≡ true
 all-agree = refl
 
-served : (c cfgr : ℕ) → c < 8 → isServed c cfgr ≡ (eqb (field cfgr srcidBit 3) c || eqb c 7)
+served : (c cfgr : ℕ) → c < 8 → is_served c cfgr ≡ (eqb (field cfgr srcid_bit 3) c || eqb c 7)
 served c cfgr h =
-    let i = field cfgr srcidBit 3 in
-    ap (λ (a : ℕ). eqb a (servedBy c).srcid) (in_place cfgr c)
+    let i = field cfgr srcid_bit 3 in
+    ap (λ (a : ℕ). eqb a (served_by c).srcid) (in_place cfgr c)
     ∙ beq-is (serves c i) (eqb i c || eqb c 7)
-    (all-at 8 (agrees c) (all-at 8 (λ c. all 8 (agrees c)) all-agree c h) i (field_lt cfgr srcidBit 3))
+    (all-at 8 (agrees c) (all-at 8 (λ c. all 8 (agrees c)) all-agree c h) i (field_lt cfgr srcid_bit 3))
 
-one_bit : (d : Bool) → bit 1 (denOf d) ≡ false
+one_bit : (d : Bool) → bit 1 (den_of d) ≡ false
 one_bit true = refl
 one_bit false = refl
 
@@ -84,38 +84,38 @@ own a false i s = sym (or-false a)
 
 module _ (p : Bool) (w : List ℕ) (o c : ℕ) where
   abbrev by : ℕ → ℕ
-  by = serving (servedBy c)
+  by = serving (served_by c)
 
   asked-counted : (n : ℕ) → bit (masks p by w n o).opens 0 ≡ counted w n o
-  unfolding masks subGathered
+  unfolding masks sub_gathered
   asked-counted n =
       some-sub p by w o (λ m. bit m.opens 0) (λ x s. true) (λ x m. refl) (bit-zero 0)
       (λ x s m.
       ap-cond (λ (l : Masks). bit l.opens 0) (covers w (sub x s) o) _ m
       ∙ ap (λ (b : Bool). cond (covers w (sub x s) o) b (bit m.opens 0))
-      (bit-or m.opens _ 0 ∙ ap (λ (b : Bool). bit m.opens 0 || b) (either (isServed c (get_or w (sub x s) 0)) (get_or w (sub x s) 0) 0))
-      ∙ own (bit m.opens 0) (bit (get_or w (sub x s) 0) 0) _ (isServed c (get_or w (sub x s) 0))) n
+      (bit-or m.opens _ 0 ∙ ap (λ (b : Bool). bit m.opens 0 || b) (either (is_served c (get_or w (sub x s) 0)) (get_or w (sub x s) 0) 0))
+      ∙ own (bit m.opens 0) (bit (get_or w (sub x s) 0) 0) _ (is_served c (get_or w (sub x s) 0))) n
       ∙ any_same n _ _ (λ x h. any_same 2 _ _ (λ s l. and-true (counts w o x s)))
 
   asked-open : (d : Bool) (n : ℕ) → c < 8
-      → bit (masks p by w n o).opens (denOf d)
-      ≡ someSub w n o (λ x s. (eqb (srcid w x s).0 c || eqb c 7) && bit (get_or w (sub x s) 0) (denOf d))
-  unfolding masks subGathered
+      → bit (masks p by w n o).opens (den_of d)
+      ≡ some_sub w n o (λ x s. (eqb (srcid w x s).0 c || eqb c 7) && bit (get_or w (sub x s) 0) (den_of d))
+  unfolding masks sub_gathered
   asked-open d n h =
-      some-sub p by w o (λ m. bit m.opens (denOf d))
-      (λ x s. (eqb (srcid w x s).0 c || eqb c 7) && bit (get_or w (sub x s) 0) (denOf d)) (λ x m. refl) (bit-zero (denOf d))
+      some-sub p by w o (λ m. bit m.opens (den_of d))
+      (λ x s. (eqb (srcid w x s).0 c || eqb c 7) && bit (get_or w (sub x s) 0) (den_of d)) (λ x m. refl) (bit-zero (den_of d))
       (λ x s m.
-      ap-cond (λ (l : Masks). bit l.opens (denOf d)) (covers w (sub x s) o) _ m
-      ∙ ap (λ (b : Bool). cond (covers w (sub x s) o) b (bit m.opens (denOf d)))
-      (bit-or m.opens _ (denOf d) ∙ ap (λ (b : Bool). bit m.opens (denOf d) || b) (one (get_or w (sub x s) 0)))
-      ∙ or-cond (covers w (sub x s) o) (bit m.opens (denOf d)) _) n
+      ap-cond (λ (l : Masks). bit l.opens (den_of d)) (covers w (sub x s) o) _ m
+      ∙ ap (λ (b : Bool). cond (covers w (sub x s) o) b (bit m.opens (den_of d)))
+      (bit-or m.opens _ (den_of d) ∙ ap (λ (b : Bool). bit m.opens (den_of d) || b) (one (get_or w (sub x s) 0)))
+      ∙ or-cond (covers w (sub x s) o) (bit m.opens (den_of d)) _) n
     where
-      one : (cfgr : ℕ) → bit (cond (isServed c cfgr) cfgr 1) (denOf d) ≡ ((eqb (field cfgr srcidBit 3) c || eqb c 7) && bit cfgr (denOf d))
+      one : (cfgr : ℕ) → bit (cond (is_served c cfgr) cfgr 1) (den_of d) ≡ ((eqb (field cfgr srcid_bit 3) c || eqb c 7) && bit cfgr (den_of d))
       one cfgr =
-          either (isServed c cfgr) cfgr (denOf d) ∙ ap₂ (λ (s b : Bool). cond s (bit cfgr (denOf d)) b) (served c cfgr h) (one_bit d)
-          ∙ go (eqb (field cfgr srcidBit 3) c || eqb c 7)
+          either (is_served c cfgr) cfgr (den_of d) ∙ ap₂ (λ (s b : Bool). cond s (bit cfgr (den_of d)) b) (served c cfgr h) (one_bit d)
+          ∙ go (eqb (field cfgr srcid_bit 3) c || eqb c 7)
         where
-          go : (s : Bool) → cond s (bit cfgr (denOf d)) false ≡ (s && bit cfgr (denOf d))
+          go : (s : Bool) → cond s (bit cfgr (den_of d)) false ≡ (s && bit cfgr (den_of d))
           go true = refl
           go false = refl
 
@@ -123,53 +123,53 @@ module _ (p : Bool) (w : List ℕ) (o c : ℕ) where
 
 module _ (w : List ℕ) (n o : ℕ) (k : Kind) (h : k.cid.0 ≤ 7) where
   abbrev den : ℕ
-  den = denOf k.write
+  den = den_of k.write
 
   abbrev p : Bool
   p = k.privileged
 
   abbrev adds : ℕ → ℕ
-  adds = serving (servedBy k.cid.0)
+  adds = serving (served_by k.cid.0)
 
   abbrev m : Masks
   m = masks p adds w n o
 
-  opened : bit m.opens den ≡ someSub w n o (opens w k)
+  opened : bit m.opens den ≡ some_sub w n o (opens w k)
   opened = by k.write
     where
       by : (d : Bool)
-          → bit m.opens (denOf d)
-          ≡ someSub w n o
+          → bit m.opens (den_of d)
+          ≡ some_sub w n o
           (λ x s.
-          (eqb (srcid w x s).0 k.cid.0 || eqb k.cid.0 7) && cond d (bit (get_or w (sub x s) 0) wrenBit) (bit (get_or w (sub x s) 0) rdenBit))
+          (eqb (srcid w x s).0 k.cid.0 || eqb k.cid.0 7) && cond d (bit (get_or w (sub x s) 0) wren_bit) (bit (get_or w (sub x s) 0) rden_bit))
       by true = asked-open p w o k.cid.0 true n (omega (arith, h))
       by false = asked-open p w o k.cid.0 false n (omega (arith, h))
 
   -- in either direction
-  may : (d b : Bool) → bit (cond d (allIf b) (allIf b)) k.cid.0 ≡ b
+  may : (d b : Bool) → bit (cond d (all_if b) (all_if b)) k.cid.0 ≡ b
   may true b = all-if p adds w n o k h b b refl
   may false b = all-if p adds w n o k h b b refl
 
-  pub asked_is : covered w n o ≡ true → verdictOf (byAsked den m) k ≡ decided Axi w n o k
-  unfolding decided tests byAsked verdictOf bySubs byBases
+  pub asked_is : covered w n o ≡ true → verdict_of (by_asked den m) k ≡ decided Axi w n o k
+  unfolding decided tests by_asked verdict_of by_subs by_bases
   asked_is e = rw e (by (counted w n o) (asked-counted p w o k.cid.0 n))
     where
       by : (c : Bool) → bit m.opens 0 ≡ c
-          → verdictOf (cond (bit m.opens 0) (bySubs m (allIf (bit m.opens den)) (allIf (bit m.opens den))) (byBases m)) k
-          ≡ record { rule = cond c 2 1; reason = reasonOf (cond c (tests2 w n o k) (tests1 w n o k)) }
+          → verdict_of (cond (bit m.opens 0) (by_subs m (all_if (bit m.opens den)) (all_if (bit m.opens den))) (by_bases m)) k
+          ≡ record { rule = cond c 2 1; reason = reason_of (cond c (tests2 w n o k) (tests1 w n o k)) }
       by true f =
-          rw f (ap (λ t. record { rule = 2; reason = reasonOf t }) (subs-tests p adds w n o k h (λ e. e) _ _ (may k.write (bit m.opens den) ∙ opened)))
-      by false f = rw f (ap (λ t. record { rule = 1; reason = reasonOf t }) (bases-tests p adds w n o k h))
+          rw f (ap (λ t. record { rule = 2; reason = reason_of t }) (subs-tests p adds w n o k h (λ e. e) _ _ (may k.write (bit m.opens den) ∙ opened)))
+      by false f = rw f (ap (λ t. record { rule = 1; reason = reason_of t }) (bases-tests p adds w n o k h))
 
   -- in the code's calls, the direction by itself
   governed-as : (d : Bool) → k.write ≡ d → covered w n o ≡ true
-      → packed (verdictOf (byAsked (denOf d) m) (record { cid = k.cid; write = d; privileged = k.privileged; secure = k.secure }))
+      → packed (verdict_of (by_asked (den_of d) m) (record { cid = k.cid; write = d; privileged = k.privileged; secure = k.secure }))
       ≡ governed w n o k
   governed-as d e f = rw (← e) (rw f (ap packed (asked_is f)))
 
   -- where the search found one
   pub found_as : (d : Bool) → k.write ≡ d → {r : ℕ} → Next w o 0 n r → (r ≡ n → ⊥)
-      → packed (verdictOf (byAsked (denOf d) m) (record { cid = k.cid; write = d; privileged = k.privileged; secure = k.secure }))
+      → packed (verdict_of (by_asked (den_of d) m) (record { cid = k.cid; write = d; privileged = k.privileged; secure = k.secure }))
       ≡ governed w n o k
   found_as d e {r} next f =
       let l : r < n = omega (arith, next.high, f) in
@@ -180,7 +180,7 @@ module _ (w : List ℕ) (n o : ℕ) (k : Kind) (h : k.cid.0 ≤ 7) where
 
 -- ---- the verdict in one number
 
-pub reason-most : (t : Tests) → reasonOf t ≤ 3
+pub reason-most : (t : Tests) → reason_of t ≤ 3
 reason-most t = go t.security t.privilege t.compartment
   where
     go : (a b c : Bool) → cond a (cond b (cond c 0 3) 2) 1 ≤ 3
@@ -190,11 +190,11 @@ reason-most t = go t.security t.privilege t.compartment
     go false b c = omega arith
 
 -- of one asking
-pub asked-most : (den : ℕ) (m : Masks) (k : Kind) {v : Verdict} → v ≡ verdictOf (byAsked den m) k → (v.rule ≤ 2) × (v.reason ≤ 3)
-unfolding verdictOf byAsked bySubs byBases
-asked-most den m k e = rw e (go (bit m.opens 0), reason-most (testsOf (byAsked den m) k))
+pub asked-most : (den : ℕ) (m : Masks) (k : Kind) {v : Verdict} → v ≡ verdict_of (by_asked den m) k → (v.rule ≤ 2) × (v.reason ≤ 3)
+unfolding verdict_of by_asked by_subs by_bases
+asked-most den m k e = rw e (go (bit m.opens 0), reason-most (tests_of (by_asked den m) k))
   where
-    go : (b : Bool) → (cond b (bySubs m (allIf (bit m.opens den)) (allIf (bit m.opens den))) (byBases m)).rule ≤ 2
+    go : (b : Bool) → (cond b (by_subs m (all_if (bit m.opens den)) (all_if (bit m.opens den))) (by_bases m)).rule ≤ 2
     go true = omega arith
     go false = omega arith
 
@@ -210,7 +210,7 @@ module _ (bus : Bus) (w : List ℕ) (n o : ℕ) (k : Kind) where
 
   -- rule 1 or 2, by whether a subregion counts
   ruled : Bool → Verdict
-  ruled c = record { rule = cond c 2 1; reason = reasonOf (cond c (tests2 w n o h) (tests1 w n o h)) }
+  ruled c = record { rule = cond c 2 1; reason = reason_of (cond c (tests2 w n o h) (tests1 w n o h)) }
 
   ruled-most : (c : Bool) → (1 ≤ (ruled c).rule) × ((ruled c).rule ≤ 2)
   unfolding ruled
@@ -218,17 +218,17 @@ module _ (bus : Bus) (w : List ℕ) (n o : ℕ) (k : Kind) where
   ruled-most false = (omega arith, omega arith)
 
   covered-by : (b : Bus) → covered w n o ≡ true
-      → ◌≡◌ {A = Verdict} (record { rule = ruleOf w n o; reason = reasonOf (tests b w n o h) }) (ruled (counted w n o))
+      → ◌≡◌ {A = Verdict} (record { rule = rule_of w n o; reason = reason_of (tests b w n o h) }) (ruled (counted w n o))
   unfolding tests ruled
   covered-by b e = rw e refl
 
   -- where it is 0, rule 0 governs
-  pub zero_default : governed w n o h ≡ 0 → {r : ℕ} → r ≡ reasonOf (tests0 bus h) → ◌≡◌ {A = Verdict} (record { rule = 0; reason = r }) (decided bus w n o k)
+  pub zero_default : governed w n o h ≡ 0 → {r : ℕ} → r ≡ reason_of (tests0 bus h) → ◌≡◌ {A = Verdict} (record { rule = 0; reason = r }) (decided bus w n o k)
   unfolding decided tests
   zero_default z {r} e = go (covered w n o) refl
     where
       go : (c : Bool) → covered w n o ≡ c
-          → ◌≡◌ {A = Verdict} (record { rule = 0; reason = r }) (record { rule = ruleOf w n o; reason = reasonOf (tests bus w n o h) })
+          → ◌≡◌ {A = Verdict} (record { rule = 0; reason = r }) (record { rule = rule_of w n o; reason = reason_of (tests bus w n o h) })
       go true f =
           let p : packed (ruled (counted w n o)) ≡ 0 = ap packed (sym (covered-by Axi f)) ∙ sym (ap (λ (b : Bool). cond b (packed (decided Axi w n o h)) 0) f) ∙ z in
           let m = ruled-most (counted w n o) in

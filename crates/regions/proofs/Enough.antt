@@ -7,33 +7,33 @@ use lib.ListN.{length}
 use borrow.Author.Tests.{le-leb}
 use Rattle.access.specs.declared.bus.Bus.{Bus}
 use Rattle.access.specs.declared.kind.Kind.{Kind}
-use Rattle.regions.specs.Active.{active, activeIn, noneActive}
-use Rattle.regions.specs.Ahead.{ahead, aheadIn}
-use Rattle.regions.specs.Lent.{enough, decidedIn, rightsIn}
-use Rattle.regions.specs.Rights.{rightsWord}
+use Rattle.regions.specs.Active.{active, active_in, none_active}
+use Rattle.regions.specs.Ahead.{ahead, ahead_in}
+use Rattle.regions.specs.Lent.{enough, decided_in, rights_in}
+use Rattle.regions.specs.Rights.{rights_word}
 use Rattle.regions.specs.Rules.{decided}
 
 module _ (bus : Bus) (w : List ℕ) (n o : ℕ) (h : n ≤ 11) (l : 12 * n ≤ length w) where
   is-enough : enough w n ≡ true
   is-enough = ap₂ ◌&&◌ (le-leb n 11 h) (le-leb (12 * n) (length w) l)
 
-  pub decided-enough : (k : Kind) → k.cid.0 ≤ 7 → decidedIn bus w n o k ≡ decided bus w n o k
-  unfolding decidedIn
+  pub decided-enough : (k : Kind) → k.cid.0 ≤ 7 → decided_in bus w n o k ≡ decided bus w n o k
+  unfolding decided_in
   decided-enough k m =
       ap (λ (b : Bool). cond b (decided bus w n o k) (record { rule = 0; reason = 3 }))
       (ap₂ ◌&&◌ is-enough (le-leb k.cid.0 7 m))
 
-  pub rights-enough : rightsIn bus w n o ≡ rightsWord bus w n o
-  unfolding rightsIn
+  pub rights-enough : rights_in bus w n o ≡ rights_word bus w n o
+  unfolding rights_in
   rights-enough =
-      ap (λ (b : Bool). cond b (rightsWord bus w n o) 0) is-enough
+      ap (λ (b : Bool). cond b (rights_word bus w n o) 0) is-enough
 
-  pub ahead-enough : (to : ℕ) → aheadIn w n o to ≡ ahead w n o to
-  unfolding aheadIn
+  pub ahead-enough : (to : ℕ) → ahead_in w n o to ≡ ahead w n o to
+  unfolding ahead_in
   ahead-enough to =
       ap (λ (b : Bool). cond b (ahead w n o to) to) is-enough
 
-  pub active-enough : (to : ℕ) → activeIn w n o to ≡ active w n o to
-  unfolding activeIn
+  pub active-enough : (to : ℕ) → active_in w n o to ≡ active w n o to
+  unfolding active_in
   active-enough to =
-      ap (λ (b : Bool). cond b (active w n o to) (noneActive to)) is-enough
+      ap (λ (b : Bool). cond b (active w n o to) (none_active to)) is-enough

@@ -4,8 +4,8 @@ use mathlib.Core.Logic.{◌⊎◌, inl, inr, ⊎_elim}
 use mathlib.Core.Path.{◌≡◌, refl, subst, ◌∙◌}
 use Prim.Native.Nat.{ℕ, zero, suc, ◌+◌, ◌≤◌, ◌<◌}
 use native.Mathlib.Omega.{arith}
-use Rattle.regions.specs.Active.{active, withRegion}
-use Rattle.regions.specs.Ahead.{lesser, regionAhead, subAhead, baseAhead, ahead}
+use Rattle.regions.specs.Active.{active, with_region}
+use Rattle.regions.specs.Ahead.{lesser, region_ahead, sub_ahead, base_ahead, ahead}
 use Rattle.regions.specs.Words.{base, sub}
 use Rattle.regions.specs.declared.active.Active.{Active}
 use Rattle.regions.proofs.Inactive.{with-off, with-before, with-past, with-inside}
@@ -44,25 +44,25 @@ module _ {B : ℕ → Type 0} (w : List ℕ) (o : ℕ) where
       record { low = l.right; above = l.above o h; is = ⊎_elim (λ e. inr (rw e k)) inl l.is }
 
   region-found : (p to : ℕ) (further : ℕ → ℕ) → Ends B w p → ((t : ℕ) → Found B o t (further t))
-      → Found B o to (regionAhead w p o further to)
+      → Found B o to (region_ahead w p o further to)
   region-found p to further b f = by (lies w p o)
     where
-      by : Lies w p o → Found B o to (regionAhead w p o further to)
+      by : Lies w p o → Found B o to (region_ahead w p o further to)
       by (off e) = rw (← (ahead-off w p o further to e).0) (none to)
       by (before e l) = rw (← (ahead_before w p o further to e l).0) (nearer (first w p) to b.0 l)
       by (past e l k) = rw (← (ahead_past w p o further to e l k).0) (none to)
       by (inside e l k) =
           rw (← (ahead-inside w p o further to e l k).0) (onward (nearer (last w p + 1) to b.1 (omega arith)) (f (lesser (last w p + 1) to)))
 
-  sub-found : (p to : ℕ) → Ends B w p → Found B o to (subAhead w p o to)
-  unfolding subAhead
+  sub-found : (p to : ℕ) → Ends B w p → Found B o to (sub_ahead w p o to)
+  unfolding sub_ahead
   sub-found p to b = region-found p to (λ t. t) b none
 
-  subs-found : (x to : ℕ) → RegionEnds B w x → Found B o to (subAhead w (sub x 1) o (subAhead w (sub x 0) o to))
-  subs-found x to b = onward (sub-found (sub x 0) to b.1) (sub-found (sub x 1) (subAhead w (sub x 0) o to) b.2)
+  subs-found : (x to : ℕ) → RegionEnds B w x → Found B o to (sub_ahead w (sub x 1) o (sub_ahead w (sub x 0) o to))
+  subs-found x to b = onward (sub-found (sub x 0) to b.1) (sub-found (sub x 1) (sub_ahead w (sub x 0) o to) b.2)
 
-  base-found : (x to : ℕ) → RegionEnds B w x → Found B o to (baseAhead w x o to)
-  unfolding baseAhead
+  base-found : (x to : ℕ) → RegionEnds B w x → Found B o to (base_ahead w x o to)
+  unfolding base_ahead
   base-found x to b = region-found (base x) to _ b.0 (λ t. subs-found x t b)
 
   pub ahead-found : (n to : ℕ) → ((x : ℕ) → x < n → RegionEnds B w x) → Found B o to (ahead w n o to)
@@ -71,13 +71,13 @@ module _ {B : ℕ → Type 0} (w : List ℕ) (o : ℕ) where
   ahead-found (suc n) to b =
       onward (ahead-found n to (λ x h. b x (omega arith))) (base-found n (ahead w n o to) (b n (omega arith)))
 
-  more-found : (x : ℕ) (a : Active) → RegionEnds B w x → Found B o a.to (withRegion w x o a).to
+  more-found : (x : ℕ) (a : Active) → RegionEnds B w x → Found B o a.to (with_region w x o a).to
   more-found x a b = by (lies w (base x) o)
     where
-      found : {r : Active} → r ≡ withRegion w x o a → Found B o a.to r.to → Found B o a.to (withRegion w x o a).to
+      found : {r : Active} → r ≡ with_region w x o a → Found B o a.to r.to → Found B o a.to (with_region w x o a).to
       found e f = subst (λ (r : Active). Found B o a.to r.to) e f
 
-      by : Lies w (base x) o → Found B o a.to (withRegion w x o a).to
+      by : Lies w (base x) o → Found B o a.to (with_region w x o a).to
       by (off e) = found (with-off w x o a e) (none a.to)
       by (before e l) = found (with-before w x o a e l) (nearer (first w (base x)) a.to b.0.0 l)
       by (past e l k) = found (with-past w x o a e l k) (none a.to)
@@ -95,11 +95,11 @@ module _ (w : List ℕ) (o : ℕ) where
   abbrev Any : ℕ → Type 0
   Any b = Unit {0}
 
-  pub sub_low : (p to : ℕ) → subAhead w p o to ≤ to
+  pub sub_low : (p to : ℕ) → sub_ahead w p o to ≤ to
   sub_low p to = (sub-found {B = Any} w o p to (tt, tt)).low
 
-  pub subs-low : (x to : ℕ) → subAhead w (sub x 1) o (subAhead w (sub x 0) o to) ≤ to
+  pub subs-low : (x to : ℕ) → sub_ahead w (sub x 1) o (sub_ahead w (sub x 0) o to) ≤ to
   subs-low x to = (subs-found {B = Any} w o x to ((tt, tt), (tt, tt), (tt, tt))).low
 
-  pub base-low : (x to : ℕ) → baseAhead w x o to ≤ to
+  pub base-low : (x to : ℕ) → base_ahead w x o to ≤ to
   base-low x to = (base-found {B = Any} w o x to ((tt, tt), (tt, tt), (tt, tt))).low

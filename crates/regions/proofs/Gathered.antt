@@ -9,7 +9,7 @@ use native.Mathlib.Numerals.{add-one}
 use lib.ListN.{get_or}
 use Rattle.regions.specs.Words.{base, sub}
 use Rattle.regions.specs.Rules.{covers}
-use Rattle.regions.specs.Masks.{masks, withSub, subGathered, baseGathered, Passed}
+use Rattle.regions.specs.Masks.{masks, with_sub, sub_gathered, base_gathered, Passed}
 use Rattle.regions.specs.declared.masks.Masks.{Masks}
 
 -- ---- base regions that are passed by
@@ -29,7 +29,7 @@ module _ (w : List ℕ) (o from : ℕ) where
 
 -- they say nothing
 pub masks-pass : (p : Bool) (adds : ℕ → ℕ) (w : List ℕ) (o from r : ℕ) → from ≤ r → Passed w o from r → masks p adds w from o ≡ masks p adds w r o
-unfolding masks baseGathered
+unfolding masks base_gathered
 masks-pass p adds w o from zero h passed = let e : from ≡ 0 = omega arith in rw e
 masks-pass p adds w o from (suc r) h passed =
     by (dec_lt from (suc r)) (λ l. masks-pass p adds w o from r l (λ y a b. passed y a (omega arith)))
@@ -39,21 +39,21 @@ masks-pass p adds w o from (suc r) h passed =
     by (no l) earlier = let e : from ≡ suc r = omega arith in rw e
 
 -- one base region more, by the code's call
-pub masks-more : (p : Bool) (adds : ℕ → ℕ) (w : List ℕ) (n o : ℕ) {l m : Masks} → l ≡ masks p adds w n o → m ≡ baseGathered p adds w n o l
+pub masks-more : (p : Bool) (adds : ℕ → ℕ) (w : List ℕ) (n o : ℕ) {l m : Masks} → l ≡ masks p adds w n o → m ≡ base_gathered p adds w n o l
     → m ≡ masks p adds w (n + 1) o
 unfolding masks
-masks-more p adds w n o el em = em ∙ ap (baseGathered p adds w n o) el ∙ sym (ap (λ (i : ℕ). masks p adds w i o) (add-one n))
+masks-more p adds w n o el em = em ∙ ap (base_gathered p adds w n o) el ∙ sym (ap (λ (i : ℕ). masks p adds w i o) (add-one n))
 
 -- ---- a subregion, by whether it covers
 
 module _ (p : Bool) (adds : ℕ → ℕ) (w : List ℕ) (x s o : ℕ) (m : Masks) where
   abbrev counted : Masks
-  counted = withSub p (get_or w (base x) 0) (get_or w (sub x s) 0) (adds (get_or w (sub x s) 0)) m
+  counted = with_sub p (get_or w (base x) 0) (get_or w (sub x s) 0) (adds (get_or w (sub x s) 0)) m
 
-  pub sub_out : covers w (sub x s) o ≡ false → m ≡ subGathered p adds w x s o m
-  unfolding subGathered
+  pub sub_out : covers w (sub x s) o ≡ false → m ≡ sub_gathered p adds w x s o m
+  unfolding sub_gathered
   sub_out e = sym (ap (λ (b : Bool). cond b counted m) e)
 
-  pub sub_in : covers w (sub x s) o ≡ true → counted ≡ subGathered p adds w x s o m
-  unfolding subGathered
+  pub sub_in : covers w (sub x s) o ≡ true → counted ≡ sub_gathered p adds w x s o m
+  unfolding sub_gathered
   sub_in e = sym (ap (λ (b : Bool). cond b counted m) e)

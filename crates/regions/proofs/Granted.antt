@@ -9,14 +9,14 @@ use Rattle.access.specs.Fold.{all}
 use Rattle.access.specs.declared.bus.Bus.{Bus}
 use Rattle.access.specs.declared.kind.Kind.{Kind}
 use Rattle.regions.specs.Words.{base}
-use Rattle.regions.specs.Rules.{Tests, reasonOf, covers, tests0, tests1, tests2, counted, covered, secEqual, privcPassed, enabledFor, tests, decided, granted}
-use Rattle.regions.specs.Grants.{grants0, grants1, grants2, ruleGrants}
+use Rattle.regions.specs.Rules.{Tests, reason_of, covers, tests0, tests1, tests2, counted, covered, sec_equal, privc_passed, enabled_for, tests, decided, granted}
+use Rattle.regions.specs.Grants.{grants0, grants1, grants2, rule_grants}
 
 -- all three pass
 abbrev passed : Tests → Bool
 passed t = t.security && t.privilege && t.compartment
 
-pub all_pass : (t : Tests) → eqb (reasonOf t) 0 ≡ passed t
+pub all_pass : (t : Tests) → eqb (reason_of t) 0 ≡ passed t
 all_pass t = go t.security t.privilege t.compartment
   where
     go : (a b c : Bool) → eqb (cond a (cond b (cond c 0 3) 2) 1) 0 ≡ (a && b && c)
@@ -50,8 +50,8 @@ all_three (suc n) v p q r =
 
 -- ---- the theorem
 
-pub granted-is : (bus : Bus) (w : List ℕ) (n o : ℕ) (k : Kind) → granted (decided bus w n o k) ≡ ruleGrants bus w n o k
-unfolding decided tests ruleGrants
+pub granted-is : (bus : Bus) (w : List ℕ) (n o : ℕ) (k : Kind) → granted (decided bus w n o k) ≡ rule_grants bus w n o k
+unfolding decided tests rule_grants
 granted-is bus w n o k = all_pass (tests bus w n o h) ∙ by (counted w n o) (covered w n o)
   where
     h : Kind
@@ -61,5 +61,5 @@ granted-is bus w n o k = all_pass (tests bus w n o h) ∙ by (counted w n o) (co
         → passed (cond c (tests2 w n o h) (cond d (tests1 w n o h) (tests0 bus h)))
         ≡ cond c (grants2 w n o h) (cond d (grants1 w n o h) (grants0 bus h))
     by true d = refl
-    by false true = all_three n (λ x. covers w (base x) o) (secEqual w h) (privcPassed w h) (enabledFor w h)
+    by false true = all_three n (λ x. covers w (base x) o) (sec_equal w h) (privc_passed w h) (enabled_for w h)
     by false false = refl

@@ -8,11 +8,11 @@ use native.Mathlib.Numerals.{add-one}
 use native.Mathlib.Omega.{arith}
 use lib.Dec.{eqb}
 use borrow.Author.Tests.{eq-eqb, ne_eqb, lt-ltb, le-ltb}
-use Rattle.regions.specs.Active.{withRegion, noneActive, active}
+use Rattle.regions.specs.Active.{with_region, none_active, active}
 use Rattle.regions.specs.Ahead.{lesser}
-use Rattle.regions.specs.Masks.{Passed, someEnabled}
+use Rattle.regions.specs.Masks.{Passed, some_enabled}
 use Rattle.regions.specs.Rules.{covers}
-use Rattle.regions.specs.Words.{base, mostRegions}
+use Rattle.regions.specs.Words.{base, most_regions}
 use Rattle.regions.specs.declared.active.Active.{Active}
 use Rattle.regions.proofs.Enabled.{none_of}
 use Rattle.regions.proofs.Gathered.{pass-none, pass-more}
@@ -21,22 +21,22 @@ use Rattle.regions.proofs.Lies.{is-lesser, on, first, last, Lies, off, before, p
 -- ---- with one base region, each way that the offset lies to it
 
 module _ (w : List ℕ) (x o : ℕ) (a : Active) where
-  pub with-off : on w (base x) ≡ false → a ≡ withRegion w x o a
-  unfolding withRegion
+  pub with-off : on w (base x) ≡ false → a ≡ with_region w x o a
+  unfolding with_region
   with-off e = simp e
 
   pub with-before : on w (base x) ≡ true → o < first w (base x)
-      → record { low = a.low; high = a.high; to = lesser (first w (base x)) a.to } ≡ withRegion w x o a
-  unfolding withRegion
+      → record { low = a.low; high = a.high; to = lesser (first w (base x)) a.to } ≡ with_region w x o a
+  unfolding with_region
   with-before e l = simp (e, lt-ltb o (first w (base x)) l)
 
-  pub with-past : on w (base x) ≡ true → first w (base x) ≤ o → last w (base x) < o → a ≡ withRegion w x o a
-  unfolding withRegion
+  pub with-past : on w (base x) ≡ true → first w (base x) ≤ o → last w (base x) < o → a ≡ with_region w x o a
+  unfolding with_region
   with-past e l g = simp (e, le-ltb o (first w (base x)) l, lt-ltb (last w (base x)) o g)
 
   pub with-inside : on w (base x) ≡ true → first w (base x) ≤ o → o ≤ last w (base x)
-      → record { low = cond (eqb a.high 0) x a.low; high = x + 1; to = a.to } ≡ withRegion w x o a
-  unfolding withRegion
+      → record { low = cond (eqb a.high 0) x a.low; high = x + 1; to = a.to } ≡ with_region w x o a
+  unfolding with_region
   with-inside e l g = simp (e, le-ltb o (first w (base x)) l, le-ltb (last w (base x)) o g)
 
 -- ---- all of them
@@ -78,10 +78,10 @@ module _ (w : List ℕ) (o : ℕ) where
           })
 
   -- one more, each way that the offset lies to it
-  more : (n : ℕ) (a : Active) → Inactive n a → Inactive (suc n) (withRegion w n o a)
+  more : (n : ℕ) (a : Active) → Inactive n a → Inactive (suc n) (with_region w n o a)
   more n a i = by (lies w (base n) o)
     where
-      by : Lies w (base n) o → Inactive (suc n) (withRegion w n o a)
+      by : Lies w (base n) o → Inactive (suc n) (with_region w n o a)
       by (off e) =
           subst (Inactive (suc n)) (with-off w n o a e) (passes i a.to (omega arith) (λ y l g. (ahead-off w (base n) y (λ t. t) 0 e).1))
       by (before e b) =
@@ -99,14 +99,14 @@ module _ (w : List ℕ) (o : ℕ) where
   inactive (suc n) to = more n (active w n o to) (inactive n to)
 
   -- where none is enabled, none is active
-  pub unenabled-inactive : (n to : ℕ) → n ≤ mostRegions → someEnabled w mostRegions ≡ false → noneActive to ≡ active w n o to
+  pub unenabled-inactive : (n to : ℕ) → n ≤ most_regions → some_enabled w most_regions ≡ false → none_active to ≡ active w n o to
   unfolding active
   unenabled-inactive zero to h e = refl
   unenabled-inactive (suc n) to h e =
       unenabled-inactive n to (omega arith) e
-      ∙ with-off w n o (active w n o to) (none_of mostRegions (λ x. on w (base x)) e n (omega arith))
+      ∙ with-off w n o (active w n o to) (none_of most_regions (λ x. on w (base x)) e n (omega arith))
 
 -- one base region more, by the code's call
-pub active-more : (w : List ℕ) (n o to : ℕ) {a b : Active} → a ≡ active w n o to → b ≡ withRegion w n o a → b ≡ active w (n + 1) o to
+pub active-more : (w : List ℕ) (n o to : ℕ) {a b : Active} → a ≡ active w n o to → b ≡ with_region w n o a → b ≡ active w (n + 1) o to
 unfolding active
-active-more w n o to ea eb = eb ∙ ap (withRegion w n o) ea ∙ sym (ap (λ (i : ℕ). active w i o to) (add-one n))
+active-more w n o to ea eb = eb ∙ ap (with_region w n o) ea ∙ sym (ap (λ (i : ℕ). active w i o to) (add-one n))

@@ -10,8 +10,8 @@ use native.Mathlib.Omega.{arith}
 use lib.ListN.{get_or}
 use borrow.Author.Tests.{lt-ltb, le-ltb, lt-leb, le-leb}
 use Rattle.words.specs.Bit.{bit}
-use Rattle.regions.specs.Ahead.{lesser, regionAhead, baseAhead, ahead}
-use Rattle.regions.specs.Words.{base, start_at, end_at, enableBit}
+use Rattle.regions.specs.Ahead.{lesser, region_ahead, base_ahead, ahead}
+use Rattle.regions.specs.Words.{base, start_at, end_at, enable_bit}
 use Rattle.regions.specs.Rules.{covers}
 
 -- ---- the lesser of two
@@ -33,7 +33,7 @@ is-lesser a b = by (dec_lt a b)
 
 module _ (w : List ℕ) (p : ℕ) where
   abbrev pub on : Bool
-  on = bit (get_or w p 0) enableBit
+  on = bit (get_or w p 0) enable_bit
 
   abbrev pub first : ℕ
   first = get_or w (p + start_at) 0
@@ -59,22 +59,22 @@ module _ (w : List ℕ) (p : ℕ) where
 
   -- what is ahead, and whether it covers, each way
   module _ (o : ℕ) (further : ℕ → ℕ) (to : ℕ) where
-    pub ahead-off : on ≡ false → (to ≡ regionAhead w p o further to) × (covers w p o ≡ false)
+    pub ahead-off : on ≡ false → (to ≡ region_ahead w p o further to) × (covers w p o ≡ false)
     ahead-off e = simp e (refl, refl)
 
-    pub ahead_before : on ≡ true → o < first → (lesser first to ≡ regionAhead w p o further to) × (covers w p o ≡ false)
+    pub ahead_before : on ≡ true → o < first → (lesser first to ≡ region_ahead w p o further to) × (covers w p o ≡ false)
     ahead_before e a = simp (e, lt-ltb o first a, lt-leb first o a) (refl, refl)
 
-    pub ahead_past : on ≡ true → first ≤ o → last < o → (to ≡ regionAhead w p o further to) × (covers w p o ≡ false)
+    pub ahead_past : on ≡ true → first ≤ o → last < o → (to ≡ region_ahead w p o further to) × (covers w p o ≡ false)
     ahead_past e a b = simp (e, le-ltb o first a, le-leb first o a, lt-ltb last o b, lt-leb o last b) (refl, refl)
 
     pub ahead-inside : on ≡ true → first ≤ o → o ≤ last
-        → (further (lesser (last + 1) to) ≡ regionAhead w p o further to) × (covers w p o ≡ true)
+        → (further (lesser (last + 1) to) ≡ region_ahead w p o further to) × (covers w p o ≡ true)
     ahead-inside e a b = simp (e, le-ltb o first a, le-leb first o a, le-ltb last o b, le-leb o last b) (refl, refl)
 
 -- ---- a base region, by the code's calls
 
 module _ (w : List ℕ) (x o to : ℕ) where
-  pub ahead_more : {s t : ℕ} → s ≡ ahead w x o to → t ≡ baseAhead w x o s → t ≡ ahead w (x + 1) o to
+  pub ahead_more : {s t : ℕ} → s ≡ ahead w x o to → t ≡ base_ahead w x o s → t ≡ ahead w (x + 1) o to
   unfolding ahead
-  ahead_more es et = et ∙ ap (baseAhead w x o) es ∙ sym (ap (λ (n : ℕ). ahead w n o to) (add-one x))
+  ahead_more es et = et ∙ ap (base_ahead w x o) es ∙ sym (ap (λ (n : ℕ). ahead w n o to) (add-one x))

@@ -5,8 +5,8 @@ use Prim.Native.Nat.{ℕ}
 use Rattle.words.specs.Bit.{bit}
 use Rattle.access.specs.declared.bus.Bus.{Bus}
 use Rattle.access.specs.declared.kind.Kind.{Kind}
-use Rattle.regions.specs.Rules.{is_default, reasonOf, tests0}
-use Rattle.regions.specs.Admits.{admitsSecurity, openTo, testsOf}
+use Rattle.regions.specs.Rules.{is_default, reason_of, tests0}
+use Rattle.regions.specs.Admits.{admits_security, open_to, tests_of}
 use Rattle.regions.specs.declared.admits.Admits.{Admits}
 
 -- unprivileged where the compartment is closed
@@ -20,25 +20,25 @@ module _ (a : Admits) (k : Kind) where
   shut = not k.privileged && bit a.closed k.cid.0
 
   abbrev opened : Bool
-  opened = bit (openTo a k.write) k.cid.0
+  opened = bit (open_to a k.write) k.cid.0
 
   abbrev reason : ℕ
-  reason = reasonOf (testsOf a k)
+  reason = reason_of (tests_of a k)
 
-  pub for-security : admitsSecurity a k.secure ≡ false → 1 ≡ reason
-  unfolding testsOf
+  pub for-security : admits_security a k.secure ≡ false → 1 ≡ reason
+  unfolding tests_of
   for-security e = rw e refl
 
-  pub for-privilege : admitsSecurity a k.secure ≡ true → shut ≡ true → 2 ≡ reason
-  unfolding testsOf
+  pub for-privilege : admits_security a k.secure ≡ true → shut ≡ true → 2 ≡ reason
+  unfolding tests_of
   for-privilege e f = rw (e, fails k.privileged (bit a.closed k.cid.0) true f) refl
 
-  pub for-compartment : admitsSecurity a k.secure ≡ true → shut ≡ false → opened ≡ false → 3 ≡ reason
-  unfolding testsOf
+  pub for-compartment : admits_security a k.secure ≡ true → shut ≡ false → opened ≡ false → 3 ≡ reason
+  unfolding tests_of
   for-compartment e f g = rw (e, fails k.privileged (bit a.closed k.cid.0) false f, g) refl
 
-  pub for-none : admitsSecurity a k.secure ≡ true → shut ≡ false → opened ≡ true → 0 ≡ reason
-  unfolding testsOf
+  pub for-none : admits_security a k.secure ≡ true → shut ≡ false → opened ≡ true → 0 ≡ reason
+  unfolding tests_of
   for-none e f g = rw (e, fails k.privileged (bit a.closed k.cid.0) false f, g) refl
 
 -- of rule 0
@@ -46,8 +46,8 @@ module _ (bus : Bus) (k : Kind) (s : k.secure ≡ true) (p : k.privileged ≡ tr
   by : (a b c d : Bool) → a ≡ true → b ≡ true → c ≡ d → ◌≡◌ {A = ℕ} (cond d 0 3) (cond a (cond b (cond c 0 3) 2) 1)
   by a b c d e f g = rw (e, f, g) refl
 
-  pub default_none : is_default bus k ≡ true → 0 ≡ reasonOf (tests0 bus k)
+  pub default_none : is_default bus k ≡ true → 0 ≡ reason_of (tests0 bus k)
   default_none = by k.secure k.privileged (is_default bus k) true s p
 
-  pub default-compartment : is_default bus k ≡ false → 3 ≡ reasonOf (tests0 bus k)
+  pub default-compartment : is_default bus k ≡ false → 3 ≡ reason_of (tests0 bus k)
   default-compartment = by k.secure k.privileged (is_default bus k) false s p

@@ -7,16 +7,16 @@ use native.Mathlib.Omega.{arith}
 use lib.Dec.{eqb}
 use Rattle.words.specs.Bit.{bit, one}
 use Rattle.words.proofs.Laws.{bit_word}
-use Rattle.access.specs.Kind.{kind_of, rightsBit}
+use Rattle.access.specs.Kind.{kind_of, rights_bit}
 use Rattle.access.specs.declared.bus.Bus.{Bus}
 use Rattle.access.specs.declared.kind.Kind.{Kind}
-use Rattle.regions.specs.Rights.{rightsWord}
+use Rattle.regions.specs.Rights.{rights_word}
 use Rattle.regions.specs.Rules.{decided, granted}
 use Rattle.regions.proofs.Digits.{one-most, one-is}
 
 -- ---- a kind of asking and its place
 
-pub place-lt : (k : Kind) → k.cid.0 ≤ 7 → rightsBit k < 64
+pub place-lt : (k : Kind) → k.cid.0 ≤ 7 → rights_bit k < 64
 place-lt k h = omega (arith, one-most k.write, one-most k.privileged, one-most k.secure)
 
 kind-same : {c d : ℕ} {w x p q s t : Bool} → c ≡ d → w ≡ x → p ≡ q → s ≡ t
@@ -24,27 +24,27 @@ kind-same : {c d : ℕ} {w x p q s t : Bool} → c ≡ d → w ≡ x → p ≡ q
     (record { cid = record { 0 = d }; write = x; privileged = q; secure = t })
 kind-same e f g h = cc
 
-pub kind-place : (k : Kind) → k.cid.0 ≤ 7 → kind_of (rightsBit k) ≡ k
+pub kind-place : (k : Kind) → k.cid.0 ≤ 7 → kind_of (rights_bit k) ≡ k
 kind-place k h = kind-same cid (is 3 k.write write) (is 4 k.privileged privileged) (is 5 k.secure secure)
   where
-    is : (j : ℕ) (b : Bool) → rightsBit k / 2 ^ j % 2 ≡ one b → bit (rightsBit k) j ≡ b
+    is : (j : ℕ) (b : Bool) → rights_bit k / 2 ^ j % 2 ≡ one b → bit (rights_bit k) j ≡ b
     is j b e = ap (λ (d : ℕ). eqb d 1) e ∙ one-is b
 
-    cid : rightsBit k % 8 ≡ k.cid.0
+    cid : rights_bit k % 8 ≡ k.cid.0
     cid = omega (arith, one-most k.write, one-most k.privileged, one-most k.secure)
 
-    write : rightsBit k / 2 ^ 3 % 2 ≡ one k.write
+    write : rights_bit k / 2 ^ 3 % 2 ≡ one k.write
     write = omega (arith, one-most k.write, one-most k.privileged, one-most k.secure)
 
-    privileged : rightsBit k / 2 ^ 4 % 2 ≡ one k.privileged
+    privileged : rights_bit k / 2 ^ 4 % 2 ≡ one k.privileged
     privileged = omega (arith, one-most k.write, one-most k.privileged, one-most k.secure)
 
-    secure : rightsBit k / 2 ^ 5 % 2 ≡ one k.secure
+    secure : rights_bit k / 2 ^ 5 % 2 ≡ one k.secure
     secure = omega (arith, one-most k.write, one-most k.privileged, one-most k.secure)
 
 pub rights-bit : (bus : Bus) (w : List ℕ) (n o : ℕ) (k : Kind) → k.cid.0 ≤ 7
-    → bit (rightsWord bus w n o) (rightsBit k) ≡ granted (decided bus w n o k)
-unfolding rightsWord
+    → bit (rights_word bus w n o) (rights_bit k) ≡ granted (decided bus w n o k)
+unfolding rights_word
 rights-bit bus w n o k h =
-    bit_word 64 (λ b. granted (decided bus w n o (kind_of b))) (rightsBit k) (place-lt k h)
+    bit_word 64 (λ b. granted (decided bus w n o (kind_of b))) (rights_bit k) (place-lt k h)
     ∙ ap (λ (q : Kind). granted (decided bus w n o q)) (kind-place k h)

@@ -8,7 +8,7 @@ use Rattle.words.proofs.Laws.{word-cong}
 use Rattle.access.specs.Kind.{kind_of}
 use Rattle.access.specs.declared.bus.Bus.{Bus}
 use Rattle.regions.specs.Words.{base, sub}
-use Rattle.regions.specs.Rights.{rightsWord}
+use Rattle.regions.specs.Rights.{rights_word}
 use Rattle.regions.specs.Rules.{covers, counts, granted}
 use Rattle.regions.proofs.SameVerdict.{same-verdict}
 
@@ -28,8 +28,8 @@ module _ (w : List ℕ) (o o' : ℕ) where
       by true e (suc zero) h = ap₂ ◌&&◌ a.own (a.subs e).1
       by true e (suc (suc s)) h = absurd (omega arith)
 
-  pub rights-by-cover : (bus : Bus) (n : ℕ) → ((x : ℕ) → x < n → SameCover w o o' x) → rightsWord bus w n o ≡ rightsWord bus w n o'
-  unfolding rightsWord
+  pub rights-by-cover : (bus : Bus) (n : ℕ) → ((x : ℕ) → x < n → SameCover w o o' x) → rights_word bus w n o ≡ rights_word bus w n o'
+  unfolding rights_word
   rights-by-cover bus n a =
       word-cong 64 _ _
       (λ b h.

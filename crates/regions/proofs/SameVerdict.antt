@@ -8,15 +8,15 @@ use Rattle.access.specs.declared.bus.Bus.{Bus}
 use Rattle.access.specs.declared.kind.Kind.{Kind}
 use Rattle.access.proofs.Folds.{any_same, all_same}
 use Rattle.regions.specs.Words.{base}
-use Rattle.regions.specs.Rules.{Tests, reasonOf, covers, counts, secEqual, privcPassed, enabledFor, workingSec, workingPriv, opens, everyBase, someSub, everySub, tests0, tests1, tests2, counted, covered, tests, decided}
+use Rattle.regions.specs.Rules.{Tests, reason_of, covers, counts, sec_equal, privc_passed, enabled_for, working_sec, working_priv, opens, every_base, some_sub, every_sub, tests0, tests1, tests2, counted, covered, tests, decided}
 use Rattle.regions.specs.declared.rules.Verdict.{Verdict}
 
 -- what base region x says to a kind of asking, and what its subregion s does
 abbrev pub BaseSays : List ℕ → List ℕ → Kind → ℕ → Type 0
-BaseSays w w' k x = (secEqual w k x ≡ secEqual w' k x) × (privcPassed w k x ≡ privcPassed w' k x) × (enabledFor w k x ≡ enabledFor w' k x)
+BaseSays w w' k x = (sec_equal w k x ≡ sec_equal w' k x) × (privc_passed w k x ≡ privc_passed w' k x) × (enabled_for w k x ≡ enabled_for w' k x)
 
 abbrev pub SubSays : List ℕ → List ℕ → Kind → ℕ → ℕ → Type 0
-SubSays w w' k x s = (workingSec w x s ≡ workingSec w' x s) × (workingPriv w x s ≡ workingPriv w' x s) × (opens w k x s ≡ opens w' k x s)
+SubSays w w' k x s = (working_sec w x s ≡ working_sec w' x s) × (working_priv w x s ≡ working_priv w' x s) × (opens w k x s ≡ opens w' k x s)
 
 module _ (bus : Bus) (w w' : List ℕ) (n o o' : ℕ) (k : Kind) (cover : (x : ℕ) → x < n → covers w (base x) o ≡ covers w' (base x) o')
     (count : (x : ℕ) → x < n → (s : ℕ) → s < 2 → counts w o x s ≡ counts w' o' x s) (bases : (x : ℕ) → x < n → BaseSays w w' (heard bus k) x)
@@ -24,36 +24,36 @@ module _ (bus : Bus) (w w' : List ℕ) (n o o' : ℕ) (k : Kind) (cover : (x : �
   abbrev h : Kind
   h = heard bus k
 
-  every-base : (p q : ℕ → Bool) → ((x : ℕ) → x < n → p x ≡ q x) → everyBase w n o p ≡ everyBase w' n o' q
+  every-base : (p q : ℕ → Bool) → ((x : ℕ) → x < n → p x ≡ q x) → every_base w n o p ≡ every_base w' n o' q
   every-base p q e = all_same n _ _ (λ x h. ap₂ (λ (a b : Bool). not a || b) (cover x h) (e x h))
 
-  every-sub : (p q : ℕ → ℕ → Bool) → ((x : ℕ) → x < n → (s : ℕ) → s < 2 → p x s ≡ q x s) → everySub w n o p ≡ everySub w' n o' q
+  every-sub : (p q : ℕ → ℕ → Bool) → ((x : ℕ) → x < n → (s : ℕ) → s < 2 → p x s ≡ q x s) → every_sub w n o p ≡ every_sub w' n o' q
   every-sub p q e =
       all_same n _ _ (λ x h. all_same 2 _ _ (λ s l. ap₂ (λ (a b : Bool). not a || b) (count x h s l) (e x h s l)))
 
-  some-sub : (p q : ℕ → ℕ → Bool) → ((x : ℕ) → x < n → (s : ℕ) → s < 2 → p x s ≡ q x s) → someSub w n o p ≡ someSub w' n o' q
+  some-sub : (p q : ℕ → ℕ → Bool) → ((x : ℕ) → x < n → (s : ℕ) → s < 2 → p x s ≡ q x s) → some_sub w n o p ≡ some_sub w' n o' q
   some-sub p q e = any_same n _ _ (λ x h. any_same 2 _ _ (λ s l. ap₂ ◌&&◌ (count x h s l) (e x h s l)))
 
   tests1-same : tests1 w n o h ≡ tests1 w' n o' h
   tests1-same =
       rw (
-        every-base (secEqual w h) (secEqual w' h) (λ x l. (bases x l).0),
-        every-base (privcPassed w h) (privcPassed w' h) (λ x l. (bases x l).1),
-        every-base (enabledFor w h) (enabledFor w' h) (λ x l. (bases x l).2),
+        every-base (sec_equal w h) (sec_equal w' h) (λ x l. (bases x l).0),
+        every-base (privc_passed w h) (privc_passed w' h) (λ x l. (bases x l).1),
+        every-base (enabled_for w h) (enabled_for w' h) (λ x l. (bases x l).2),
       )
 
   tests2-same : tests2 w n o h ≡ tests2 w' n o' h
   tests2-same =
       rw (
-        every-sub (workingSec w) (workingSec w') (λ x h s l. (subs x h s l).0),
-        every-sub (workingPriv w) (workingPriv w') (λ x h s l. (subs x h s l).1),
+        every-sub (working_sec w) (working_sec w') (λ x h s l. (subs x h s l).0),
+        every-sub (working_priv w) (working_priv w') (λ x h s l. (subs x h s l).1),
         some-sub (opens w h) (opens w' h) (λ x h s l. (subs x h s l).2),
       )
 
   -- the verdict, by the rule that governs
   verdict : Bool → Bool → Tests → Tests → Verdict
   verdict c d one two =
-      record { rule = cond c 2 (cond d 1 0); reason = reasonOf (cond c two (cond d one (tests0 bus h))) }
+      record { rule = cond c 2 (cond d 1 0); reason = reason_of (cond c two (cond d one (tests0 bus h))) }
 
   pub same-verdict : decided bus w n o k ≡ decided bus w' n o' k
   unfolding decided tests verdict

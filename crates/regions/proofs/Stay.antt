@@ -6,9 +6,9 @@ use Prim.Native.Nat.{ℕ, zero, suc, ◌+◌, ◌≤◌, ◌<◌}
 use native.Mathlib.Decide.{dec_lt}
 use native.Mathlib.Omega.{arith}
 use Rattle.access.specs.declared.bus.Bus.{Bus}
-use Rattle.regions.specs.Ahead.{lesser, regionAhead, subAhead, baseAhead, ahead}
+use Rattle.regions.specs.Ahead.{lesser, region_ahead, sub_ahead, base_ahead, ahead}
 use Rattle.regions.specs.Words.{base, sub}
-use Rattle.regions.specs.Rights.{rightsWord}
+use Rattle.regions.specs.Rights.{rights_word}
 use Rattle.regions.specs.Rules.{covers}
 use Rattle.regions.proofs.SameCover.{SameCover, rights-by-cover}
 use Rattle.regions.proofs.Found.{sub_low, subs-low, base-low}
@@ -20,7 +20,7 @@ module _ (w : List ℕ) (o y : ℕ) (h : o ≤ y) where
     same : covers w p o ≡ covers w p y
     within : covers w p o ≡ true → y < further (lesser (last w p + 1) to)
 
-  region-stays : (p to : ℕ) (further : ℕ → ℕ) → ((t : ℕ) → further t ≤ t) → y < regionAhead w p o further to → Stays p to further
+  region-stays : (p to : ℕ) (further : ℕ → ℕ) → ((t : ℕ) → further t ≤ t) → y < region_ahead w p o further to → Stays p to further
   region-stays p to further f l = by (lies w p o)
     where
       by : Lies w p o → Stays p to further
@@ -38,16 +38,16 @@ module _ (w : List ℕ) (o y : ℕ) (h : o ≤ y) where
           let g : y ≤ last w p = omega (arith, k, f (lesser (last w p + 1) to), (is-lesser (last w p + 1) to).left) in
           record { same = a.1 ∙ sym (ahead-inside w p y further to e (omega arith) g).1; within = λ d. k }
 
-  sub-stays : (p to : ℕ) → y < subAhead w p o to → covers w p o ≡ covers w p y
-  unfolding subAhead
+  sub-stays : (p to : ℕ) → y < sub_ahead w p o to → covers w p o ≡ covers w p y
+  unfolding sub_ahead
   sub-stays p to l = (region-stays p to (λ t. t) (λ t. omega arith) l).same
 
-  base_stays : (x to : ℕ) → y < baseAhead w x o to → SameCover w o y x
-  unfolding baseAhead
+  base_stays : (x to : ℕ) → y < base_ahead w x o to → SameCover w o y x
+  unfolding base_ahead
   base_stays x to l =
       let r = region-stays (base x) to _ (subs-low w o x) l in
       let own = lesser (last w (base x) + 1) to in
-      let a = subAhead w (sub x 0) o own in
+      let a = sub_ahead w (sub x 0) o own in
       record {
         own = r.same;
         subs =
@@ -66,5 +66,5 @@ module _ (w : List ℕ) (o y : ℕ) (h : o ≤ y) where
       by (yes i) earlier = earlier i
       by (no i) earlier = let e : x ≡ n = omega arith in rw e (base_stays n (ahead w n o to) l)
 
-  pub rights-stay : (bus : Bus) (n to : ℕ) → y < ahead w n o to → rightsWord bus w n y ≡ rightsWord bus w n o
+  pub rights-stay : (bus : Bus) (n to : ℕ) → y < ahead w n o to → rights_word bus w n y ≡ rights_word bus w n o
   rights-stay bus n to l = sym (rights-by-cover w o y bus n (ahead-stays n to l))

@@ -7,8 +7,8 @@ use Rattle.access.specs.Kind.{kind_of}
 use Rattle.access.specs.declared.bus.Bus.{Bus}
 use Rattle.access.specs.declared.bus.Bus.TheVariants.{Axi, Ahb}
 use Rattle.access.specs.declared.kind.Kind.{Kind}
-use Rattle.regions.specs.Words.{enableBit, secBit, privBit, privcBit, readBit, writeBit}
-use Rattle.regions.specs.Rules.{Tests, reasonOf, granted, covered, decided}
+use Rattle.regions.specs.Words.{enable_bit, sec_bit, priv_bit, privc_bit, read_bit, write_bit}
+use Rattle.regions.specs.Rules.{Tests, reason_of, granted, covered, decided}
 use Rattle.regions.specs.Masks.{masks, openings}
 use Rattle.regions.specs.declared.admits.Admits.{Admits}
 use Rattle.regions.specs.declared.masks.Masks.{Masks}
@@ -22,99 +22,99 @@ defaults Axi = 0x82
 defaults Ahb = 0xff
 
 -- rule 0: secure; no compartment unprivileged
-unfoldable pub byDefault : Bus → Admits
-byDefault bus =
+unfoldable pub by_default : Bus → Admits
+by_default bus =
     record { rule = 0; secure = true; nonsecure = false; closed = 0xff; reads = defaults bus; writes = defaults bus }
 
 -- rule 1, with CID 7 enabled
-unfoldable pub byBases : Masks → Admits
-byBases m =
+unfoldable pub by_bases : Masks → Admits
+by_bases m =
     record {
       rule = 1;
-      secure = bit m.every secBit;
-      nonsecure = not (bit m.some secBit);
-      closed = m.some / 2 ^ privcBit 0;
+      secure = bit m.every sec_bit;
+      nonsecure = not (bit m.some sec_bit);
+      closed = m.some / 2 ^ privc_bit 0;
       reads = bit_or m.enables 0x80;
-      writes = bit_or (m.enables / 2 ^ writeBit 0) 0x80;
+      writes = bit_or (m.enables / 2 ^ write_bit 0) 0x80;
     }
 
 -- the compartments of a mask, and CID 7 where there are any
-unfoldable pub withDebugger : ℕ → ℕ
-withDebugger mask = cond (eqb mask 0) 0 (bit_or mask 0x80)
+unfoldable pub with_debugger : ℕ → ℕ
+with_debugger mask = cond (eqb mask 0) 0 (bit_or mask 0x80)
 
 -- all compartments, or none
-abbrev pub allIf : Bool → ℕ
-allIf b = cond b 0xff 0
+abbrev pub all_if : Bool → ℕ
+all_if b = cond b 0xff 0
 
 -- rule 2, with the compartments that may read and write
-unfoldable pub bySubs : Masks → ℕ → ℕ → Admits
-bySubs m reads writes =
+unfoldable pub by_subs : Masks → ℕ → ℕ → Admits
+by_subs m reads writes =
     record {
       rule = 2;
-      secure = bit m.secure secBit;
-      nonsecure = not (bit m.secure secBit);
-      closed = allIf (bit m.privileged privBit);
+      secure = bit m.secure sec_bit;
+      nonsecure = not (bit m.secure sec_bit);
+      closed = all_if (bit m.privileged priv_bit);
       reads = reads;
       writes = writes;
     }
 
 -- where some base region covers: a subregion counts where opens has a bit
-unfoldable pub byRegions : Masks → Admits
-byRegions m =
-    cond (eqb m.opens 0) (byBases m)
-    (bySubs m (withDebugger (field m.opens (readBit 0) 8)) (withDebugger (field m.opens (writeBit 0) 8)))
+unfoldable pub by_regions : Masks → Admits
+by_regions m =
+    cond (eqb m.opens 0) (by_bases m)
+    (by_subs m (with_debugger (field m.opens (read_bit 0) 8)) (with_debugger (field m.opens (write_bit 0) 8)))
 
 -- the same for one asking, whose direction bit den of CFGR enables: for no other compartment and direction is it right in rule 2
-unfoldable pub byAsked : ℕ → Masks → Admits
-byAsked den m =
-    cond (bit m.opens enableBit) (bySubs m (allIf (bit m.opens den)) (allIf (bit m.opens den))) (byBases m)
+unfoldable pub by_asked : ℕ → Masks → Admits
+by_asked den m =
+    cond (bit m.opens enable_bit) (by_subs m (all_if (bit m.opens den)) (all_if (bit m.opens den))) (by_bases m)
 
 -- some base region covers where some CFGR has the enable
-unfoldable pub byMasks : Bus → Masks → Admits
-byMasks bus m = cond (bit m.some enableBit) (byRegions m) (byDefault bus)
+unfoldable pub by_masks : Bus → Masks → Admits
+by_masks bus m = cond (bit m.some enable_bit) (by_regions m) (by_default bus)
 
 unfoldable pub admitted : Bus → List ℕ → ℕ → ℕ → Admits
-admitted bus w n o = cond (covered w n o) (byRegions (masks false openings w n o)) (byDefault bus)
+admitted bus w n o = cond (covered w n o) (by_regions (masks false openings w n o)) (by_default bus)
 
 -- ---- as the bus hears them
 
 -- all compartments where CID 0 is one of the mask's
-abbrev pub allAsZero : ℕ → ℕ
-allAsZero mask = allIf (bit mask 0)
+abbrev pub all_as_zero : ℕ → ℕ
+all_as_zero mask = all_if (bit mask 0)
 
 -- each compartment as the one that it is heard as
-unfoldable pub asHeard : Bus → Admits → Admits
-asHeard Axi a = a
-asHeard Ahb a =
+unfoldable pub as_heard : Bus → Admits → Admits
+as_heard Axi a = a
+as_heard Ahb a =
     record {
       rule = a.rule;
       secure = a.secure;
       nonsecure = a.nonsecure;
-      closed = allAsZero a.closed;
-      reads = allAsZero a.reads;
-      writes = allAsZero a.writes;
+      closed = all_as_zero a.closed;
+      reads = all_as_zero a.reads;
+      writes = all_as_zero a.writes;
     }
 
 -- ---- the tests
 
 -- this security passes
-abbrev pub admitsSecurity : Admits → Bool → Bool
-admitsSecurity a secure = cond secure a.secure a.nonsecure
+abbrev pub admits_security : Admits → Bool → Bool
+admits_security a secure = cond secure a.secure a.nonsecure
 
 -- the compartments that pass in this direction
-abbrev pub openTo : Admits → Bool → ℕ
-openTo a write = cond write a.writes a.reads
+abbrev pub open_to : Admits → Bool → ℕ
+open_to a write = cond write a.writes a.reads
 
-unfoldable pub testsOf : Admits → Kind → Tests
-testsOf a k =
+unfoldable pub tests_of : Admits → Kind → Tests
+tests_of a k =
     record {
-      security = admitsSecurity a k.secure;
+      security = admits_security a k.secure;
       privilege = k.privileged || not (bit a.closed k.cid.0);
-      compartment = bit (openTo a k.write) k.cid.0;
+      compartment = bit (open_to a k.write) k.cid.0;
     }
 
-unfoldable pub verdictOf : Admits → Kind → Verdict
-verdictOf a k = record { rule = a.rule; reason = reasonOf (testsOf a k) }
+unfoldable pub verdict_of : Admits → Kind → Verdict
+verdict_of a k = record { rule = a.rule; reason = reason_of (tests_of a k) }
 
 -- a verdict in one number
 abbrev pub packed : Verdict → ℕ
@@ -127,8 +127,8 @@ governed w n o k = cond (covered w n o) (packed (decided Axi w n o k)) 0
 -- ---- the rights
 
 -- the wide bits of the rights word from bit at
-unfoldable pub rightsFrom : Admits → ℕ → ℕ → ℕ
-rightsFrom a at wide = word wide (λ i. granted (verdictOf a (kind_of (at + i))))
+unfoldable pub rights_from : Admits → ℕ → ℕ → ℕ
+rights_from a at wide = word wide (λ i. granted (verdict_of a (kind_of (at + i))))
 
 -- where the byte of a direction, a privilege and a security begins
 abbrev pub byte_at : Bool → Bool → Bool → ℕ
@@ -136,4 +136,4 @@ byte_at write privileged secure = 8 * (one write + 2 * one privileged + 4 * one 
 
 -- that byte: bit c is what they say to CID c
 abbrev pub byte_of : Admits → Bool → Bool → Bool → ℕ
-byte_of a write privileged secure = rightsFrom a (byte_at write privileged secure) 8
+byte_of a write privileged secure = rights_from a (byte_at write privileged secure) 8

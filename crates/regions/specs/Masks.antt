@@ -4,7 +4,7 @@ use Rattle.std.specs.Int.Bits.{bit_and, bit_or}
 use Rattle.words.specs.Bit.{bit, field}
 use Rattle.access.specs.Fold.{any}
 use Rattle.access.specs.Kind.{debugger}
-use Rattle.regions.specs.Words.{base, sub, cidcfgrAt, enableBit, privBit, privcBit, srcidBit, rdenBit, wrenBit}
+use Rattle.regions.specs.Words.{base, sub, cidcfgr_at, enable_bit, priv_bit, privc_bit, srcid_bit, rden_bit, wren_bit}
 use Rattle.regions.specs.Rules.{covers}
 use Rattle.regions.specs.declared.masks.Masks.{Masks}
 use Rattle.regions.specs.declared.masks.Served.{Served}
@@ -13,23 +13,23 @@ use Rattle.regions.specs.declared.masks.Served.{Served}
 
 -- a subregion's CFGR with SRCID i: bit i where reads are enabled, bit 8 + i, bit 16 + i where writes are
 unfoldable pub opening : ℕ → ℕ → ℕ
-opening cfgr i = (cfgr / 2 ^ rdenBit % 2 + 0x100 + cfgr / 2 ^ wrenBit % 2 * 0x1_0000) * 2 ^ i % 2 ^ 32
+opening cfgr i = (cfgr / 2 ^ rden_bit % 2 + 0x100 + cfgr / 2 ^ wren_bit % 2 * 0x1_0000) * 2 ^ i % 2 ^ 32
 
 -- of the rights of all compartments: what a subregion's CFGR adds to `opens`
 abbrev pub openings : ℕ → ℕ
-openings cfgr = opening cfgr (field cfgr srcidBit 3)
+openings cfgr = opening cfgr (field cfgr srcid_bit 3)
 
 -- the SRCIDs that serve compartment c, where they lie in CFGR: its own; CID 7 every one serves
-abbrev pub servedBy : ℕ → Served
-servedBy c = cond (eqb c debugger.0) (record { mask = 0; srcid = 0 }) (record { mask = (2 ^ 3 - 1) * 2 ^ srcidBit; srcid = c * 2 ^ srcidBit % 2 ^ 32 })
+abbrev pub served_by : ℕ → Served
+served_by c = cond (eqb c debugger.0) (record { mask = 0; srcid = 0 }) (record { mask = (2 ^ 3 - 1) * 2 ^ srcid_bit; srcid = c * 2 ^ srcid_bit % 2 ^ 32 })
 
 -- of one asking, the same: CFGR, where it has an SRCID that serves, else its enable alone, which is 1 where the subregion counts
 abbrev pub serving : Served → ℕ → ℕ
 serving by cfgr = cond (eqb (bit_and cfgr by.mask) by.srcid) cfgr 1
 
 -- with the words of a base region that covers
-abbrev pub withBase : ℕ → ℕ → Masks → Masks
-withBase cfgr cidcfgr m =
+abbrev pub with_base : ℕ → ℕ → Masks → Masks
+with_base cfgr cidcfgr m =
     record {
       some = bit_or m.some cfgr;
       every = bit_and m.every cfgr;
@@ -41,35 +41,35 @@ withBase cfgr cidcfgr m =
 
 -- with CFGR of a subregion that counts, and of its base region; opens is what it adds there. Where all is for a privileged asking, PRIV is
 -- not looked at
-abbrev pub withSub : Bool → ℕ → ℕ → ℕ → Masks → Masks
-withSub p base sub opens m =
-    let i = field sub srcidBit 3 in
+abbrev pub with_sub : Bool → ℕ → ℕ → ℕ → Masks → Masks
+with_sub p base sub opens m =
+    let i = field sub srcid_bit 3 in
     record {
       some = m.some;
       every = m.every;
       enables = m.enables;
       secure = bit_and m.secure (bit_and sub base);
-      privileged = cond p m.privileged (bit_and m.privileged (bit_and sub (base / 2 ^ i / 2 ^ (privcBit 0 - privBit))));
+      privileged = cond p m.privileged (bit_and m.privileged (bit_and sub (base / 2 ^ i / 2 ^ (privc_bit 0 - priv_bit))));
       opens = bit_or m.opens opens;
     }
 
 -- with subregion s of a base region that covers; p says whether all is for a privileged asking, adds what a subregion's CFGR adds to `opens`
-unfoldable pub subGathered : Bool → (ℕ → ℕ) → List ℕ → ℕ → ℕ → ℕ → Masks → Masks
-subGathered p adds w x s o m =
-    cond (covers w (sub x s) o) (withSub p (get_or w (base x) 0) (get_or w (sub x s) 0) (adds (get_or w (sub x s) 0)) m) m
+unfoldable pub sub_gathered : Bool → (ℕ → ℕ) → List ℕ → ℕ → ℕ → ℕ → Masks → Masks
+sub_gathered p adds w x s o m =
+    cond (covers w (sub x s) o) (with_sub p (get_or w (base x) 0) (get_or w (sub x s) 0) (adds (get_or w (sub x s) 0)) m) m
 
 -- with base region x, which covers, and its subregions
-abbrev pub insideGathered : Bool → (ℕ → ℕ) → List ℕ → ℕ → ℕ → Masks → Masks
-insideGathered p adds w x o m =
-    subGathered p adds w x 1 o (subGathered p adds w x 0 o (withBase (get_or w (base x) 0) (get_or w (base x + cidcfgrAt) 0) m))
+abbrev pub inside_gathered : Bool → (ℕ → ℕ) → List ℕ → ℕ → ℕ → Masks → Masks
+inside_gathered p adds w x o m =
+    sub_gathered p adds w x 1 o (sub_gathered p adds w x 0 o (with_base (get_or w (base x) 0) (get_or w (base x + cidcfgr_at) 0) m))
 
 -- with base region x and its subregions: nothing where it does not cover
-unfoldable pub baseGathered : Bool → (ℕ → ℕ) → List ℕ → ℕ → ℕ → Masks → Masks
-baseGathered p adds w x o m = cond (covers w (base x) o) (insideGathered p adds w x o m) m
+unfoldable pub base_gathered : Bool → (ℕ → ℕ) → List ℕ → ℕ → ℕ → Masks → Masks
+base_gathered p adds w x o m = cond (covers w (base x) o) (inside_gathered p adds w x o m) m
 
 -- of none
-abbrev pub noneGathered : Masks
-noneGathered =
+abbrev pub none_gathered : Masks
+none_gathered =
     record {
       some = 0;
       every = 2 ^ 32 - 1;
@@ -81,8 +81,8 @@ noneGathered =
 
 -- of n base regions
 unfoldable pub masks : Bool → (ℕ → ℕ) → List ℕ → ℕ → ℕ → Masks
-masks p adds w zero o = noneGathered
-masks p adds w (suc n) o = baseGathered p adds w n o (masks p adds w n o)
+masks p adds w zero o = none_gathered
+masks p adds w (suc n) o = base_gathered p adds w n o (masks p adds w n o)
 
 -- ---- the search for a base region that covers
 
@@ -91,8 +91,8 @@ abbrev pub Passed : List ℕ → ℕ → ℕ → ℕ → Type 0
 Passed w o from r = (y : ℕ) → from ≤ y → y < r → covers w (base y) o ≡ false
 
 -- some base region of n is enabled
-abbrev pub someEnabled : List ℕ → ℕ → Bool
-someEnabled w n = any n (λ x. bit (get_or w (base x) 0) enableBit)
+abbrev pub some_enabled : List ℕ → ℕ → Bool
+some_enabled w n = any n (λ x. bit (get_or w (base x) 0) enable_bit)
 
 -- r is the next base region from `from` on that covers, or n
 pub record Next (w : List ℕ) (o from n r : ℕ) : Type 0 where

@@ -5,5 +5,5 @@ use Rattle.access.specs.Kind.{kind_of}
 use Rattle.access.specs.declared.bus.Bus.{Bus}
 use Rattle.regions.specs.Rules.{decided, granted}
 
-unfoldable pub rightsWord : Bus → List ℕ → ℕ → ℕ → ℕ
-rightsWord bus w n o = word 64 (λ b. granted (decided bus w n o (kind_of b)))
+unfoldable pub rights_word : Bus → List ℕ → ℕ → ℕ → ℕ
+rights_word bus w n o = word 64 (λ b. granted (decided bus w n o (kind_of b)))

@@ -12,14 +12,14 @@ use Rattle.access.specs.declared.bus.Bus.{Bus}
 use Rattle.access.specs.declared.bus.Bus.TheVariants.{Axi, Ahb}
 use Rattle.access.specs.declared.kind.Cid.{Cid}
 use Rattle.access.specs.declared.kind.Kind.{Kind}
-use Rattle.regions.specs.Words.{start_at, end_at, cidcfgrAt, base, sub, enableBit, secBit, privcBit, srcidBit, privBit, rdenBit, wrenBit, readBit, writeBit}
+use Rattle.regions.specs.Words.{start_at, end_at, cidcfgr_at, base, sub, enable_bit, sec_bit, privc_bit, srcid_bit, priv_bit, rden_bit, wren_bit, read_bit, write_bit}
 use Rattle.regions.specs.declared.rules.Verdict.{Verdict}
 
 -- ---- one region
 
 -- the region or subregion at p is enabled (BREN, SREN) and covers START to END, both included
 abbrev pub covers : List ℕ → ℕ → ℕ → Bool
-covers w p o = bit (get_or w p 0) enableBit && within (get_or w (p + start_at) 0) (get_or w (p + end_at) 0) o
+covers w p o = bit (get_or w p 0) enable_bit && within (get_or w (p + start_at) 0) (get_or w (p + end_at) 0) o
 
 -- subregion s of base region x counts where it and its base region are both enabled and both cover
 abbrev pub counts : List ℕ → ℕ → ℕ → ℕ → Bool
@@ -42,8 +42,8 @@ pub record Tests : Type 0 where
   pub compartment : Bool
 
 -- the first that fails: 1 security, 2 privilege, 3 compartment or direction; 0 where none does
-abbrev pub reasonOf : Tests → ℕ
-reasonOf t = cond t.security (cond t.privilege (cond t.compartment 0 3) 2) 1
+abbrev pub reason_of : Tests → ℕ
+reason_of t = cond t.security (cond t.privilege (cond t.compartment 0 3) 2) 1
 
 -- ---- rule 0
 
@@ -59,64 +59,64 @@ tests0 bus k = record { security = k.secure; privilege = k.privileged; compartme
 -- ---- rule 1
 
 -- every enabled base region that covers
-abbrev pub everyBase : List ℕ → ℕ → ℕ → (ℕ → Bool) → Bool
-everyBase w n o q = all n (λ x. not (covers w (base x) o) || q x)
+abbrev pub every_base : List ℕ → ℕ → ℕ → (ℕ → Bool) → Bool
+every_base w n o q = all n (λ x. not (covers w (base x) o) || q x)
 
 -- secure equals SEC
-abbrev pub secEqual : List ℕ → Kind → ℕ → Bool
-secEqual w k x = beq k.secure (bit (get_or w (base x) 0) secBit)
+abbrev pub sec_equal : List ℕ → Kind → ℕ → Bool
+sec_equal w k x = beq k.secure (bit (get_or w (base x) 0) sec_bit)
 
 -- privileged or PRIVC of the CID is 0
-abbrev pub privcPassed : List ℕ → Kind → ℕ → Bool
-privcPassed w k x = k.privileged || not (bit (get_or w (base x) 0) (privcBit k.cid.0))
+abbrev pub privc_passed : List ℕ → Kind → ℕ → Bool
+privc_passed w k x = k.privileged || not (bit (get_or w (base x) 0) (privc_bit k.cid.0))
 
 -- the enable for CID and direction is 1
-abbrev pub enabledFor : List ℕ → Kind → ℕ → Bool
-enabledFor w k x =
-    let cidcfgr = get_or w (base x + cidcfgrAt) 0 in
-    passes k || direction k (bit cidcfgr (writeBit k.cid.0)) (bit cidcfgr (readBit k.cid.0))
+abbrev pub enabled_for : List ℕ → Kind → ℕ → Bool
+enabled_for w k x =
+    let cidcfgr = get_or w (base x + cidcfgr_at) 0 in
+    passes k || direction k (bit cidcfgr (write_bit k.cid.0)) (bit cidcfgr (read_bit k.cid.0))
 
 abbrev pub tests1 : List ℕ → ℕ → ℕ → Kind → Tests
 tests1 w n o k =
     record {
-      security = everyBase w n o (secEqual w k);
-      privilege = everyBase w n o (privcPassed w k);
-      compartment = everyBase w n o (enabledFor w k);
+      security = every_base w n o (sec_equal w k);
+      privilege = every_base w n o (privc_passed w k);
+      compartment = every_base w n o (enabled_for w k);
     }
 
 -- ---- rule 2
 
 abbrev pub srcid : List ℕ → ℕ → ℕ → Cid
-srcid w x s = record { 0 = field (get_or w (sub x s) 0) srcidBit 3 }
+srcid w x s = record { 0 = field (get_or w (sub x s) 0) srcid_bit 3 }
 
 -- working SEC: its SEC and its base's SEC
-abbrev pub workingSec : List ℕ → ℕ → ℕ → Bool
-workingSec w x s = bit (get_or w (sub x s) 0) secBit && bit (get_or w (base x) 0) secBit
+abbrev pub working_sec : List ℕ → ℕ → ℕ → Bool
+working_sec w x s = bit (get_or w (sub x s) 0) sec_bit && bit (get_or w (base x) 0) sec_bit
 
 -- working PRIV: its PRIV and its base's PRIVC for SRCID
-abbrev pub workingPriv : List ℕ → ℕ → ℕ → Bool
-workingPriv w x s = bit (get_or w (sub x s) 0) privBit && bit (get_or w (base x) 0) (privcBit (srcid w x s).0)
+abbrev pub working_priv : List ℕ → ℕ → ℕ → Bool
+working_priv w x s = bit (get_or w (sub x s) 0) priv_bit && bit (get_or w (base x) 0) (privc_bit (srcid w x s).0)
 
 -- its SRCID is the CID, and its direction is enabled
 abbrev pub opens : List ℕ → Kind → ℕ → ℕ → Bool
 opens w k x s =
     (equals (srcid w x s) k.cid || passes k)
-    && direction k (bit (get_or w (sub x s) 0) wrenBit) (bit (get_or w (sub x s) 0) rdenBit)
+    && direction k (bit (get_or w (sub x s) 0) wren_bit) (bit (get_or w (sub x s) 0) rden_bit)
 
 -- some, and every, subregion that counts
-abbrev pub someSub : List ℕ → ℕ → ℕ → (ℕ → ℕ → Bool) → Bool
-someSub w n o q = any n (λ x. any 2 (λ s. counts w o x s && q x s))
+abbrev pub some_sub : List ℕ → ℕ → ℕ → (ℕ → ℕ → Bool) → Bool
+some_sub w n o q = any n (λ x. any 2 (λ s. counts w o x s && q x s))
 
-abbrev pub everySub : List ℕ → ℕ → ℕ → (ℕ → ℕ → Bool) → Bool
-everySub w n o q = all n (λ x. all 2 (λ s. not (counts w o x s) || q x s))
+abbrev pub every_sub : List ℕ → ℕ → ℕ → (ℕ → ℕ → Bool) → Bool
+every_sub w n o q = all n (λ x. all 2 (λ s. not (counts w o x s) || q x s))
 
 -- secure equals "all working SEC are 1"; privileged, or not all working PRIV are 1; at least one opens
 abbrev pub tests2 : List ℕ → ℕ → ℕ → Kind → Tests
 tests2 w n o k =
     record {
-      security = beq k.secure (everySub w n o (workingSec w));
-      privilege = k.privileged || not (everySub w n o (workingPriv w));
-      compartment = someSub w n o (opens w k);
+      security = beq k.secure (every_sub w n o (working_sec w));
+      privilege = k.privileged || not (every_sub w n o (working_priv w));
+      compartment = some_sub w n o (opens w k);
     }
 
 -- ---- the rule that governs
@@ -128,8 +128,8 @@ counted w n o = any n (λ x. any 2 (counts w o x))
 abbrev pub covered : List ℕ → ℕ → ℕ → Bool
 covered w n o = any n (λ x. covers w (base x) o)
 
-abbrev pub ruleOf : List ℕ → ℕ → ℕ → ℕ
-ruleOf w n o = cond (counted w n o) 2 (cond (covered w n o) 1 0)
+abbrev pub rule_of : List ℕ → ℕ → ℕ → ℕ
+rule_of w n o = cond (counted w n o) 2 (cond (covered w n o) 1 0)
 
 -- its tests
 unfoldable pub tests : Bus → List ℕ → ℕ → ℕ → Kind → Tests
@@ -137,7 +137,7 @@ tests bus w n o k = cond (counted w n o) (tests2 w n o k) (cond (covered w n o) 
 
 -- the verdict on a kind of asking, which the bus hears in its way: the rule, and the reason
 unfoldable pub decided : Bus → List ℕ → ℕ → ℕ → Kind → Verdict
-decided bus w n o k = record { rule = ruleOf w n o; reason = reasonOf (tests bus w n o (heard bus k)) }
+decided bus w n o k = record { rule = rule_of w n o; reason = reason_of (tests bus w n o (heard bus k)) }
 
 -- granted: no test fails
 abbrev pub granted : Verdict → Bool

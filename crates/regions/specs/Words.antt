@@ -10,64 +10,64 @@ start_at = 1
 abbrev pub end_at : ℕ
 end_at = 2
 
-abbrev pub cidcfgrAt : ℕ
-cidcfgrAt = 3
+abbrev pub cidcfgr_at : ℕ
+cidcfgr_at = 3
 
-abbrev pub nestAt : ℕ
-nestAt = 3
+abbrev pub nest_at : ℕ
+nest_at = 3
 
-abbrev pub baseWords : ℕ
-baseWords = 4
+abbrev pub base_words : ℕ
+base_words = 4
 
-abbrev pub subregionWords : ℕ
-subregionWords = 4
+abbrev pub subregion_words : ℕ
+subregion_words = 4
 
 -- a base region, with its subregions A and B
-abbrev pub regionWords : ℕ
-regionWords = baseWords + 2 * subregionWords
+abbrev pub region_words : ℕ
+region_words = base_words + 2 * subregion_words
 
 -- no guard has more base regions
-abbrev pub mostRegions : ℕ
-mostRegions = 11
+abbrev pub most_regions : ℕ
+most_regions = 11
 
 -- base region x, from 0, has its words from here
 abbrev pub base : ℕ → ℕ
-base x = regionWords * x
+base x = region_words * x
 
 -- and subregion s, 0 for A and 1 for B, from here
 abbrev pub sub : ℕ → ℕ → ℕ
-sub x s = regionWords * x + baseWords + subregionWords * s
+sub x s = region_words * x + base_words + subregion_words * s
 
 -- ---- bits of CFGR
 
 -- BREN, SREN
-abbrev pub enableBit : ℕ
-enableBit = 0
+abbrev pub enable_bit : ℕ
+enable_bit = 0
 
-abbrev pub secBit : ℕ
-secBit = 8
+abbrev pub sec_bit : ℕ
+sec_bit = 8
 
 -- PRIVC of a base region for CID c
-abbrev pub privcBit : ℕ → ℕ
-privcBit c = 16 + c
+abbrev pub privc_bit : ℕ → ℕ
+privc_bit c = 16 + c
 
 -- of a subregion
-abbrev pub srcidBit : ℕ
-srcidBit = 4
+abbrev pub srcid_bit : ℕ
+srcid_bit = 4
 
-abbrev pub privBit : ℕ
-privBit = 9
+abbrev pub priv_bit : ℕ
+priv_bit = 9
 
-abbrev pub rdenBit : ℕ
-rdenBit = 12
+abbrev pub rden_bit : ℕ
+rden_bit = 12
 
-abbrev pub wrenBit : ℕ
-wrenBit = 13
+abbrev pub wren_bit : ℕ
+wren_bit = 13
 
 -- ---- bits of CIDCFGR: the enables of CID c
 
-abbrev pub readBit : ℕ → ℕ
-readBit c = c
+abbrev pub read_bit : ℕ → ℕ
+read_bit c = c
 
-abbrev pub writeBit : ℕ → ℕ
-writeBit c = 16 + c
+abbrev pub write_bit : ℕ → ℕ
+write_bit c = 16 + c

@@ -1,6 +1,6 @@
 ghost use Rattle.std.specs.Prelude.{◌≡◌, ◌+◌, ◌≤◌, length};
-ghost use Rattle.regions.specs.Active.{activeIn, withRegion};
-ghost use Rattle.regions.specs.Words.{base, regionWords};
+ghost use Rattle.regions.specs.Active.{active_in, with_region};
+ghost use Rattle.regions.specs.Words.{base, region_words};
 
 use crate::ahead::start_ahead;
 use crate::masks::none_enabled;
@@ -17,8 +17,8 @@ pub struct Active {
 
 // With base region x, which is active from START on to END.
 fn with_region(w: &[u32], x: usize, o: u32, a: Active) -> Active
-    requires { base x + regionWords ≤ length w.now }
-    ensures { result ≡ withRegion w.now x o a }
+    requires { base x + region_words ≤ length w.now }
+    ensures { result ≡ with_region w.now x o a }
 {
     let b = REGION_WORDS * x;
     if (w[b] >> ENABLE) % 2 != 1 {
@@ -44,7 +44,7 @@ fn with_region(w: &[u32], x: usize, o: u32, a: Active) -> Active
 
 // Those of n base regions, up to `to` or a START that is nearer. Where the words are too few, none up to `to`.
 pub fn active_at(w: &[u32], n: usize, o: u32, to: u64) -> Active
-    ensures { result ≡ activeIn w.now n o to }
+    ensures { result ≡ active_in w.now n o to }
 {
     let mut a = Active {
         low: 0,

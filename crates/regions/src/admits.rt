@@ -1,6 +1,6 @@
 ghost use Rattle.std.specs.Prelude.{◌<◌, ◌≡◌};
 ghost use Rattle.access.specs.declared.bus.Bus.TheVariants.{Ahb};
-ghost use Rattle.regions.specs.Admits.{admitsSecurity, allIf, asHeard, byAsked, byBases, byDefault, byMasks, byRegions, bySubs, defaults, openTo, withDebugger};
+ghost use Rattle.regions.specs.Admits.{admits_security, all_if, as_heard, by_asked, by_bases, by_default, by_masks, by_regions, by_subs, defaults, open_to, with_debugger};
 
 use crate::masks::Masks;
 use crate::places::{ENABLE, PRIV, PRIVC, READS, SEC, WRITES};
@@ -38,7 +38,7 @@ pub(crate) fn defaults(bus: Bus) -> u32
 
 // Rule 0.
 pub(crate) fn by_default(bus: Bus) -> Admits
-    ensures { result ≡ byDefault bus }
+    ensures { result ≡ by_default bus }
 {
     let compartments = defaults(bus);
     Admits {
@@ -53,7 +53,7 @@ pub(crate) fn by_default(bus: Bus) -> Admits
 
 // Rule 1.
 fn by_bases(m: Masks) -> Admits
-    ensures { result ≡ byBases m }
+    ensures { result ≡ by_bases m }
 {
     Admits {
         rule: 1,
@@ -67,7 +67,7 @@ fn by_bases(m: Masks) -> Admits
 
 // The compartments of a mask, and the debugger's where there are any.
 fn with_debugger(mask: u32) -> u32
-    ensures { result ≡ withDebugger mask }
+    ensures { result ≡ with_debugger mask }
 {
     if mask == 0 {
         return 0;
@@ -77,14 +77,14 @@ fn with_debugger(mask: u32) -> u32
 
 // All compartments, or none.
 fn all_if(b: bool) -> u32
-    ensures { result ≡ allIf b }
+    ensures { result ≡ all_if b }
 {
     if b { ALL } else { 0 }
 }
 
 // Rule 2, with the compartments that may read and write.
 fn by_subs(m: Masks, reads: u32, writes: u32) -> Admits
-    ensures { result ≡ bySubs m reads writes }
+    ensures { result ≡ by_subs m reads writes }
 {
     let secure = (m.secure >> SEC) % 2 == 1;
     let closed = all_if((m.privileged >> PRIV) % 2 == 1);
@@ -100,7 +100,7 @@ fn by_subs(m: Masks, reads: u32, writes: u32) -> Admits
 
 // Rule 2, or else rule 1, where some base region covers.
 fn by_regions(m: Masks) -> Admits
-    ensures { result ≡ byRegions m }
+    ensures { result ≡ by_regions m }
 {
     if m.opens == 0 {
         return by_bases(m);
@@ -113,7 +113,7 @@ fn by_regions(m: Masks) -> Admits
 // The same for one asking, whose direction bit den of CFGR enables.
 pub(crate) fn by_asked(m: Masks, den: u32) -> Admits
     requires { den < 32 }
-    ensures { result ≡ byAsked den m }
+    ensures { result ≡ by_asked den m }
 {
     if (m.opens >> ENABLE) % 2 != 1 {
         return by_bases(m);
@@ -124,7 +124,7 @@ pub(crate) fn by_asked(m: Masks, den: u32) -> Admits
 
 // The same, or else rule 0: every base region that covers has its enable in CFGR.
 pub(crate) fn by_masks(bus: Bus, m: Masks) -> Admits
-    ensures { result ≡ byMasks bus m }
+    ensures { result ≡ by_masks bus m }
 {
     if (m.some >> ENABLE) % 2 != 1 {
         return by_default(bus);
@@ -134,7 +134,7 @@ pub(crate) fn by_masks(bus: Bus, m: Masks) -> Admits
 
 // All compartments as CID 0, as AHB hears them.
 pub(crate) fn all_as_zero(a: Admits) -> Admits
-    ensures { result ≡ asHeard Ahb a }
+    ensures { result ≡ as_heard Ahb a }
 {
     let closed = all_if((a.closed >> 0) % 2 == 1);
     let reads = all_if((a.reads >> 0) % 2 == 1);
@@ -151,7 +151,7 @@ pub(crate) fn all_as_zero(a: Admits) -> Admits
 
 // Whether this security passes.
 pub(crate) fn admits_security(a: Admits, secure: bool) -> bool
-    ensures { result ≡ admitsSecurity a secure }
+    ensures { result ≡ admits_security a secure }
 {
     if secure {
         return a.secure;
@@ -161,7 +161,7 @@ pub(crate) fn admits_security(a: Admits, secure: bool) -> bool
 
 // The compartments that pass in this direction.
 pub(crate) fn open_to(a: Admits, write: bool) -> u32
-    ensures { result ≡ openTo a write }
+    ensures { result ≡ open_to a write }
 {
     if write {
         return a.writes;

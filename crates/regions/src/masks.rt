@@ -1,8 +1,8 @@
 ghost use Rattle.std.specs.Prelude.{◌≡◌, ◌+◌, ◌*◌, ◌≤◌, ◌<◌, length, false, not, true};
 ghost use Rattle.words.specs.Bit.{field};
-ghost use Rattle.regions.specs.Words.{base, end_at, mostRegions, regionWords, srcidBit};
+ghost use Rattle.regions.specs.Words.{base, end_at, most_regions, region_words, srcid_bit};
 ghost use Rattle.regions.specs.Rules.{covers};
-ghost use Rattle.regions.specs.Masks.{Next, Passed, baseGathered, masks, noneGathered, opening, openings, servedBy, serving, someEnabled, subGathered, withBase, withSub};
+ghost use Rattle.regions.specs.Masks.{Next, Passed, base_gathered, masks, none_gathered, opening, openings, served_by, serving, some_enabled, sub_gathered, with_base, with_sub};
 
 use crate::places::{
     BASE_WORDS, CIDCFGR, COMPARTMENTS, ENABLE, END, MOST_REGIONS, PRIV, PRIVC, RDEN, REGION_WORDS,
@@ -34,7 +34,7 @@ pub(crate) struct Served {
 
 // Its own; every one serves the debugger.
 pub(crate) fn served_by(cid: Cid) -> Served
-    ensures { result ≡ servedBy cid.0 }
+    ensures { result ≡ served_by cid.0 }
 {
     if cid.equals(DEBUGGER) {
         return Served { mask: 0, srcid: 0 };
@@ -47,7 +47,7 @@ pub(crate) fn served_by(cid: Cid) -> Served
 
 // Where none was looked at.
 pub(crate) fn none_gathered() -> Masks
-    ensures { result ≡ noneGathered }
+    ensures { result ≡ none_gathered }
 {
     Masks {
         some: 0,
@@ -71,7 +71,7 @@ pub(crate) fn covers(w: &[u32], p: usize, o: u32) -> bool
 }
 
 fn srcid(cfgr: u32) -> Cid
-    ensures { result.0 ≡ field cfgr srcidBit 3 }
+    ensures { result.0 ≡ field cfgr srcid_bit 3 }
 {
     Cid((cfgr >> SRCID) % COMPARTMENTS)
 }
@@ -103,7 +103,7 @@ fn serving(by: Served, cfgr: u32) -> u32
 
 // With the words of a base region that covers.
 pub(crate) fn with_base(cfgr: u32, cidcfgr: u32, m: Masks) -> Masks
-    ensures { result ≡ withBase cfgr cidcfgr m }
+    ensures { result ≡ with_base cfgr cidcfgr m }
 {
     Masks {
         some: m.some | cfgr,
@@ -118,7 +118,7 @@ pub(crate) fn with_base(cfgr: u32, cidcfgr: u32, m: Masks) -> Masks
 // With CFGR of a subregion that counts, and of its base region; opens is what it adds there. For a privileged asking PRIV need not be
 // looked at: a shift less.
 fn with_sub_privileged(base: u32, sub: u32, opens: u32, m: Masks) -> Masks
-    ensures { result ≡ withSub true base sub opens m }
+    ensures { result ≡ with_sub true base sub opens m }
 {
     let opens = m.opens | opens;
     Masks {
@@ -133,7 +133,7 @@ fn with_sub_privileged(base: u32, sub: u32, opens: u32, m: Masks) -> Masks
 
 // The same, with PRIV too.
 pub(crate) fn with_sub(base: u32, sub: u32, opens: u32, m: Masks) -> Masks
-    ensures { result ≡ withSub false base sub opens m }
+    ensures { result ≡ with_sub false base sub opens m }
 {
     let srcid = srcid(sub);
     let mut next = with_sub_privileged(base, sub, opens, m);
@@ -151,8 +151,8 @@ fn sub_gathered(
     privileged: bool,
     m: Masks,
 ) -> Masks
-    requires { (base x + regionWords ≤ length w.now) × (s < 2) }
-    ensures { result ≡ subGathered privileged (serving by) w.now x s o m }
+    requires { (base x + region_words ≤ length w.now) × (s < 2) }
+    ensures { result ≡ sub_gathered privileged (serving by) w.now x s o m }
 {
     let p = REGION_WORDS * x + BASE_WORDS + SUBREGION_WORDS * s;
     if !covers(w, p, o) {
@@ -167,8 +167,8 @@ fn sub_gathered(
 
 // With what base region x and its subregions say: nothing where it does not cover.
 fn base_gathered(w: &[u32], x: usize, o: u32, by: Served, privileged: bool, m: Masks) -> Masks
-    requires { base x + regionWords ≤ length w.now }
-    ensures { result ≡ baseGathered privileged (serving by) w.now x o m }
+    requires { base x + region_words ≤ length w.now }
+    ensures { result ≡ base_gathered privileged (serving by) w.now x o m }
 {
     let b = REGION_WORDS * x;
     if !covers(w, b, o) {
@@ -181,8 +181,8 @@ fn base_gathered(w: &[u32], x: usize, o: u32, by: Served, privileged: bool, m: M
 
 // Whether no base region is enabled, of the most that there may be. One that a guard does not have may hold anything.
 pub(crate) fn none_enabled(w: &[u32]) -> bool
-    requires { base mostRegions ≤ length w.now }
-    ensures { result ≡ not (someEnabled w.now mostRegions) }
+    requires { base most_regions ≤ length w.now }
+    ensures { result ≡ not (some_enabled w.now most_regions) }
 {
     let mut some = 0;
     for x in 0..MOST_REGIONS {

@@ -1,10 +1,10 @@
 ghost use Rattle.std.specs.Prelude.{◌≡◌, ◌≤◌, length};
 ghost use Rattle.access.specs.Kind.{debugger};
-ghost use Rattle.regions.specs.Lent.{decidedIn};
-ghost use Rattle.regions.specs.Rules.{is_default, reasonOf, tests0};
-ghost use Rattle.regions.specs.Admits.{byAsked, governed, packed, testsOf, verdictOf};
-ghost use Rattle.regions.specs.Masks.{Passed, masks, servedBy, serving};
-ghost use Rattle.regions.specs.Words.{base, mostRegions, wrenBit};
+ghost use Rattle.regions.specs.Lent.{decided_in};
+ghost use Rattle.regions.specs.Rules.{is_default, reason_of, tests0};
+ghost use Rattle.regions.specs.Admits.{by_asked, governed, packed, tests_of, verdict_of};
+ghost use Rattle.regions.specs.Masks.{Passed, masks, served_by, serving};
+ghost use Rattle.regions.specs.Words.{base, most_regions, wren_bit};
 
 use crate::admits::{Admits, admits_security, by_asked, defaults, open_to};
 use crate::masks::{gathered, next_covering, none_enabled, served_by};
@@ -31,7 +31,7 @@ const COMPARTMENT: u32 = 3;
 // The first test that a kind of asking fails.
 fn reason(a: Admits, k: Kind) -> u32
     requires { k.cid.0 ≤ debugger.0 }
-    ensures { result ≡ reasonOf (testsOf a k) }
+    ensures { result ≡ reason_of (tests_of a k) }
 {
     let cid = k.cid.0;
     if !admits_security(a, k.secure) {
@@ -49,7 +49,7 @@ fn reason(a: Admits, k: Kind) -> u32
 // The verdict on a kind of asking.
 fn judged(a: Admits, k: Kind) -> Verdict
     requires { k.cid.0 ≤ debugger.0 }
-    ensures { result ≡ verdictOf a k }
+    ensures { result ≡ verdict_of a k }
 {
     let reason = reason(a, k);
     Verdict {
@@ -69,7 +69,7 @@ fn is_default(bus: Bus, k: Kind) -> bool
 // The first test of rule 0 that a kind of asking fails.
 fn default_reason(bus: Bus, k: Kind) -> u32
     requires { k.cid.0 ≤ debugger.0 }
-    ensures { result ≡ reasonOf (tests0 bus k) }
+    ensures { result ≡ reason_of (tests0 bus k) }
 {
     if !k.secure {
         return SECURITY;
@@ -96,8 +96,8 @@ fn by_regions(
     write: bool,
     secure: bool,
 ) -> u32
-    requires { (first ≤ n) × (base n ≤ length w.now) × Passed w.now o 0 first × (cid.0 ≤ debugger.0) × (den ≤ wrenBit) }
-    ensures { result ≡ packed (verdictOf (byAsked den (masks privileged (serving (servedBy cid.0)) w.now n o)) (record { cid = cid; write = write; privileged = privileged; secure = secure })) }
+    requires { (first ≤ n) × (base n ≤ length w.now) × Passed w.now o 0 first × (cid.0 ≤ debugger.0) × (den ≤ wren_bit) }
+    ensures { result ≡ packed (verdict_of (by_asked den (masks privileged (serving (served_by cid.0)) w.now n o)) (record { cid = cid; write = write; privileged = privileged; secure = secure })) }
 {
     // A part that is the whole: a slice made here is known to the compiler, which then hands w on in registers.
     let words = &w[0..];
@@ -115,7 +115,7 @@ fn by_regions(
 // The same where some base region covers, else 0. A direction has its own call, with its own bit: the compiler then leaves it a call, in
 // which there are registers enough.
 fn governed(w: &[u32], n: usize, o: u32, k: Kind) -> u32
-    requires { (n ≤ mostRegions) × (base n ≤ length w.now) × (k.cid.0 ≤ debugger.0) }
+    requires { (n ≤ most_regions) × (base n ≤ length w.now) × (k.cid.0 ≤ debugger.0) }
     ensures { result ≡ governed w.now n o k }
 {
     if REGION_WORDS * MOST_REGIONS <= w.len() {
@@ -136,7 +136,7 @@ fn governed(w: &[u32], n: usize, o: u32, k: Kind) -> u32
 
 // The verdict at an offset, by the words of n base regions. Too few words, or a CID over 7, are refused for the compartment.
 pub fn decide(bus: Bus, w: &[u32], n: usize, o: u32, k: Kind) -> Verdict
-    ensures { result ≡ decidedIn bus w.now n o k }
+    ensures { result ≡ decided_in bus w.now n o k }
 {
     let nothing = Verdict {
         rule: 0,

@@ -1,7 +1,7 @@
 ghost use Rattle.std.specs.Prelude.{false, ◌≡◌, ◌+◌, ◌≤◌, ◌<◌, length};
-ghost use Rattle.regions.specs.Ahead.{ahead, baseAhead, insideAhead, subAhead};
-ghost use Rattle.regions.specs.Masks.{baseGathered, insideGathered, masks, openings, subGathered};
-ghost use Rattle.regions.specs.Words.{base, regionWords, sub};
+ghost use Rattle.regions.specs.Ahead.{ahead, base_ahead, inside_ahead, sub_ahead};
+ghost use Rattle.regions.specs.Masks.{base_gathered, inside_gathered, masks, openings, sub_gathered};
+ghost use Rattle.regions.specs.Words.{base, region_words, sub};
 
 use crate::ahead::{end_ahead, start_ahead};
 use crate::masks::{Masks, none_gathered, openings, with_base, with_sub};
@@ -16,9 +16,9 @@ pub(crate) struct Scan {
 
 // With subregion s of base region x, which covers: START alone is ahead before it, and nothing past END.
 fn sub_scanned(w: &[u32], x: usize, s: usize, o: u32, scan: Scan) -> Scan
-    requires { (base x + regionWords ≤ length w.now) × (s < 2) }
-    ensures masks_value { result.masks ≡ subGathered false openings w.now x s o scan.masks }
-    ensures to_value { result.to ≡ subAhead w.now (sub x s) o scan.to }
+    requires { (base x + region_words ≤ length w.now) × (s < 2) }
+    ensures masks_value { result.masks ≡ sub_gathered false openings w.now x s o scan.masks }
+    ensures to_value { result.to ≡ sub_ahead w.now (sub x s) o scan.to }
 {
     let b = REGION_WORDS * x;
     let p = b + BASE_WORDS + SUBREGION_WORDS * s;
@@ -43,9 +43,9 @@ fn sub_scanned(w: &[u32], x: usize, s: usize, o: u32, scan: Scan) -> Scan
 
 // With base region x, which covers, and its subregions.
 fn inside_scanned(w: &[u32], x: usize, o: u32, s: Scan) -> Scan
-    requires { base x + regionWords ≤ length w.now }
-    ensures masks_value { result.masks ≡ insideGathered false openings w.now x o s.masks }
-    ensures to_value { result.to ≡ insideAhead w.now x o s.to }
+    requires { base x + region_words ≤ length w.now }
+    ensures masks_value { result.masks ≡ inside_gathered false openings w.now x o s.masks }
+    ensures to_value { result.to ≡ inside_ahead w.now x o s.to }
 {
     let b = REGION_WORDS * x;
     let own = Scan {
@@ -58,9 +58,9 @@ fn inside_scanned(w: &[u32], x: usize, o: u32, s: Scan) -> Scan
 // With base region x and its subregions: START alone is ahead before it, nothing past END, and the subregions matter only where
 // it covers.
 fn base_scanned(w: &[u32], x: usize, o: u32, s: Scan) -> Scan
-    requires { base x + regionWords ≤ length w.now }
-    ensures masks_value { result.masks ≡ baseGathered false openings w.now x o s.masks }
-    ensures to_value { result.to ≡ baseAhead w.now x o s.to }
+    requires { base x + region_words ≤ length w.now }
+    ensures masks_value { result.masks ≡ base_gathered false openings w.now x o s.masks }
+    ensures to_value { result.to ≡ base_ahead w.now x o s.to }
 {
     let b = REGION_WORDS * x;
     if (w[b] >> ENABLE) % 2 != 1 {

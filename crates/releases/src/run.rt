@@ -1,7 +1,7 @@
 // A script file, run: what its lines print is dropped, and each bad line is named on standard error.
 ghost use Rattle.std.specs.Prelude.{◌≡◌, ◌≤◌, ◌<◌, length};
 ghost use Rattle.response.specs.Response.{most};
-ghost use Rattle.stream.specs.Kept.{lineRoom};
+ghost use Rattle.stream.specs.Kept.{line_room};
 
 use libc::STDERR_FILENO;
 use stream::{Held, LINE_ROOM, take};
@@ -42,8 +42,8 @@ fn take_part(
     out: &mut [u8],
     place: Place,
 ) -> Place
-    requires { (length line.old ≡ lineRoom) × (most ≤ length out.old) × (place.held.bytes ≤ lineRoom) × (place.from < length block.now) }
-    ensures { (result.held.bytes ≤ lineRoom) × (place.from < result.from) × (result.from ≤ length block.now) }
+    requires { (length line.old ≡ line_room) × (most ≤ length out.old) × (place.held.bytes ≤ line_room) × (place.from < length block.now) }
+    ensures { (result.held.bytes ≤ line_room) × (place.from < result.from) × (result.from ≤ length block.now) }
 {
     let from = place.from;
     let before = place.held;
@@ -68,8 +68,8 @@ fn take_block(
     out: &mut [u8],
     going: Going,
 ) -> Going
-    requires { (length line.old ≡ lineRoom) × (most ≤ length out.old) × (going.held.bytes ≤ lineRoom) }
-    ensures { result.held.bytes ≤ lineRoom }
+    requires { (length line.old ≡ line_room) × (most ≤ length out.old) × (going.held.bytes ≤ line_room) }
+    ensures { result.held.bytes ≤ line_room }
 {
     let before = going.held;
     let mut place = Place {
@@ -98,8 +98,8 @@ fn read_block(
     out: &mut [u8],
     going: Going,
 ) -> Going
-    requires { (length line.old ≡ lineRoom) × (most ≤ length out.old) × (going.held.bytes ≤ lineRoom) }
-    ensures { result.held.bytes ≤ lineRoom }
+    requires { (length line.old ≡ line_room) × (most ≤ length out.old) × (going.held.bytes ≤ line_room) }
+    ensures { result.held.bytes ≤ line_room }
 {
     let got = libc::read(fd, block);
     if got < 0 {
@@ -127,7 +127,7 @@ fn read(
     line: &mut [u8],
     out: &mut [u8],
 ) -> bool
-    requires { (length line.old ≡ lineRoom) × (most ≤ length out.old) }
+    requires { (length line.old ≡ line_room) × (most ≤ length out.old) }
 {
     let mut going = Going {
         held: stream::start(state),

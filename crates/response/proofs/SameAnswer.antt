@@ -8,7 +8,7 @@ use Rattle.words.specs.Bit.{bit, masked, united}
 use Rattle.words.proofs.Laws.{word_lt}
 use Rattle.access.specs.Answer.{number_of, value_of}
 use Rattle.access.specs.Bus.{heard}
-use Rattle.access.specs.Checks.{unless, answeredWith, reachedWith}
+use Rattle.access.specs.Checks.{unless, answered_with, reached_with}
 use Rattle.access.specs.Request.{gives}
 use Rattle.access.specs.declared.answer.Answer.{Answer}
 use Rattle.access.specs.declared.answer.Answer.TheVariants.{Rejected}
@@ -16,23 +16,23 @@ use Rattle.access.specs.declared.answer.Why.TheVariants.{WrongLength}
 use Rattle.access.specs.declared.checks.Checks.{Checks}
 use Rattle.access.specs.declared.kind.Kind.{Kind}
 use Rattle.access.specs.declared.request.Request.{Request}
-use Rattle.rifsc.specs.Port.{read_of as rifsc-readOf, answer_of as rifsc-answerOf, stepped as rifsc-stepped}
-use Rattle.iac.specs.Port.{read_of as iac-readOf, answer_of as iac-answerOf, stepped as iac-stepped}
+use Rattle.rifsc.specs.Port.{read_of as rifsc-read_of, answer_of as rifsc-answer_of, stepped as rifsc-stepped}
+use Rattle.iac.specs.Port.{read_of as iac-read_of, answer_of as iac-answer_of, stepped as iac-stepped}
 use Rattle.risaf.specs.Port.{read_of, answer_of, accessed, stepped}
 use Rattle.risaf.specs.Guards.{shape_of}
-use Rattle.risaf.specs.Memory.{memoryAnswer, memoryStepped}
-use Rattle.regions.specs.Rules.{Tests, reasonOf, counted, covered, ruleOf, tests, decided}
-use Rattle.device.specs.Applied.{sized, appliedAnswer}
+use Rattle.risaf.specs.Memory.{memory_answer, memory_stepped}
+use Rattle.regions.specs.Rules.{Tests, reason_of, counted, covered, rule_of, tests, decided}
+use Rattle.device.specs.Applied.{sized, applied_answer}
 use Rattle.device.specs.Layout.{state_of}
 use Rattle.device.specs.State.{State, guard_of}
-use Rattle.device.specs.Step.{registerStep, peripheralStep, memoryStep, step}
+use Rattle.device.specs.Step.{register_step, peripheral_step, memory_step, step}
 use Rattle.device.specs.declared.event.Block.{Block}
 use Rattle.device.specs.declared.event.Block.TheVariants.{Rifsc, Iac, Risaf}
 use Rattle.device.specs.declared.event.Event.{Event}
 use Rattle.device.specs.declared.event.Event.TheVariants.{Reset, Register, Peripheral, Memory, Master}
 use Rattle.print.proofs.Distinct.{answers-same}
 use Rattle.script.specs.declared.command.Command.TheVariants.{Event as AnEvent}
-use Rattle.response.specs.Response.{answerText, text_of}
+use Rattle.response.specs.Response.{answer_text, text_of}
 
 -- ---- the value of an answer is a word
 
@@ -40,8 +40,8 @@ unless-few : (b : Bool) (refusal rest : Answer) → value_of refusal < 2 ^ 32 �
 unless-few true refusal rest h k = k
 unless-few false refusal rest h k = h
 
-answered-few : (c : Checks) (v r : ℕ) → v < 2 ^ 32 → r < 2 ^ 32 → value_of (answeredWith c v r) < 2 ^ 32
-unfolding answeredWith reachedWith
+answered-few : (c : Checks) (v r : ℕ) → v < 2 ^ 32 → r < 2 ^ 32 → value_of (answered_with c v r) < 2 ^ 32
+unfolding answered_with reached_with
 answered-few c v r h l =
     unless-few c.present _ _ (lit< tt)
     (unless-few c.aligned _ _ (lit< tt)
@@ -60,7 +60,7 @@ gives-few q w h = go q.write
     go false = h
 
 -- the rules are 0, 1 and 2, the reasons at most 3
-rule-few : (w : List ℕ) (n o : ℕ) → ruleOf w n o < 2 ^ 32
+rule-few : (w : List ℕ) (n o : ℕ) → rule_of w n o < 2 ^ 32
 rule-few w n o = go (counted w n o) (covered w n o)
   where
     go : (b c : Bool) → cond b 2 (cond c 1 0) < 2 ^ 32
@@ -68,7 +68,7 @@ rule-few w n o = go (counted w n o) (covered w n o)
     go false true = lit< tt
     go false false = lit< tt
 
-reason-few : (t : Tests) → reasonOf t < 2 ^ 32
+reason-few : (t : Tests) → reason_of t < 2 ^ 32
 reason-few t = go t.security t.privilege t.compartment
   where
     go : (a b c : Bool) → cond a (cond b (cond c 0 3) 2) 1 < 2 ^ 32
@@ -85,31 +85,31 @@ united-few : (x y : ℕ) → united 32 x y < 2 ^ 32
 unfolding united
 united-few x y = word_lt 32 (λ i. bit x i || bit y i)
 
-register-few : (b : Block) (q : Request) (s : State) → value_of (registerStep b q s).answer < 2 ^ 32
-unfolding registerStep rifsc-stepped rifsc-answerOf rifsc-readOf iac-stepped iac-answerOf iac-readOf stepped accessed answer_of read_of
+register-few : (b : Block) (q : Request) (s : State) → value_of (register_step b q s).answer < 2 ^ 32
+unfolding register_step rifsc-stepped rifsc-answer_of rifsc-read_of iac-stepped iac-answer_of iac-read_of stepped accessed answer_of read_of
 register-few Rifsc q s = answered-few _ _ 0 (gives-few q _ (united-few _ _)) (lit< tt)
 register-few Iac q s = answered-few _ _ 0 (gives-few q _ (united-few _ _)) (lit< tt)
 register-few (Risaf n) q s = answered-few _ _ 0 (gives-few q _ (masked-few _ _)) (lit< tt)
 
-memory-few : (there : Bool) (n o width : ℕ) (k : Kind) (s : State) → value_of (memoryStep there n o width k s).answer < 2 ^ 32
-unfolding memoryStep memoryStepped memoryAnswer decided
+memory-few : (there : Bool) (n o width : ℕ) (k : Kind) (s : State) → value_of (memory_step there n o width k s).answer < 2 ^ 32
+unfolding memory_step memory_stepped memory_answer decided
 memory-few there n o width k s =
     let shape = shape_of n in
     let w = (guard_of s n).regions in
     let m = shape.regions in
     let t = tests shape.bus w m o (heard shape.bus k) in
-    answered-few _ (ruleOf w m o) (reasonOf t) (rule-few w m o) (reason-few t)
+    answered-few _ (rule_of w m o) (reason_of t) (rule-few w m o) (reason-few t)
 
 step-few : (e : Event) (s : State) → value_of (step e s).answer < 2 ^ 32
-unfolding step peripheralStep
+unfolding step peripheral_step
 step-few Reset s = lit< tt
 step-few (Register a) s = register-few a.block a.request s
 step-few (Peripheral a) s = answered-few _ _ 0 (lit< tt) (lit< tt)
 step-few (Memory a) s = memory-few true a.guard.0 a.offset a.width a.kind s
 step-few (Master a) s = memory-few _ a.guard.0 a.offset a.width _ s
 
-applied-few : (e : Event) (m : List ℕ) → value_of (appliedAnswer e m) < 2 ^ 32
-unfolding appliedAnswer
+applied-few : (e : Event) (m : List ℕ) → value_of (applied_answer e m) < 2 ^ 32
+unfolding applied_answer
 applied-few e m = go (sized m)
   where
     go : (b : Bool) → value_of (cond b (step e (state_of m)).answer (Rejected WrongLength)) < 2 ^ 32
@@ -119,6 +119,6 @@ applied-few e m = go (sized m)
 -- ---- what is printed tells the answer
 
 pub same_line : (e e' : Event) (line line' : ℕ) (m m' : List ℕ) → text_of (AnEvent e) line m ≡ text_of (AnEvent e') line' m'
-    → (number_of (appliedAnswer e m) ≡ number_of (appliedAnswer e' m')) × (value_of (appliedAnswer e m) ≡ value_of (appliedAnswer e' m'))
-unfolding text_of answerText
-same_line e e' line line' m m' h = answers-same (appliedAnswer e m) (appliedAnswer e' m') (applied-few e m) (applied-few e' m') h
+    → (number_of (applied_answer e m) ≡ number_of (applied_answer e' m')) × (value_of (applied_answer e m) ≡ value_of (applied_answer e' m'))
+unfolding text_of answer_text
+same_line e e' line line' m m' h = answers-same (applied_answer e m) (applied_answer e' m') (applied-few e m) (applied-few e' m') h

@@ -5,34 +5,34 @@ use mathlib.Core.Path.{◌≡◌, refl, ap, ◌∙◌}
 use Prim.Native.Nat.{ℕ}
 use borrow.Author.Tests.{eq-eqb}
 use lib.ListN.{length}
-use Rattle.access.specs.Checks.{answeredWith, reachedWith}
+use Rattle.access.specs.Checks.{answered_with, reached_with}
 use Rattle.rifsc.specs.Contents.{reset as rifsc-reset}
 use Rattle.iac.specs.Contents.{reset as iac-reset}
 use Rattle.risaf.specs.Contents.{reset}
-use Rattle.risaf.specs.Guards.{shapeIn, shape_of}
-use Rattle.risaf.specs.Memory.{memoryChecks, memoryAnswer, memoryStepped}
-use Rattle.regions.specs.Rights.{rightsWord}
+use Rattle.risaf.specs.Guards.{shape_in, shape_of}
+use Rattle.risaf.specs.Memory.{memory_checks, memory_answer, memory_stepped}
+use Rattle.regions.specs.Rights.{rights_word}
 use Rattle.regions.specs.Rules.{tests, decided}
 use Rattle.spans.specs.Map.{join}
 use Rattle.spans.specs.Rows.{size}
-use Rattle.spans.specs.Sweep.{next_of, sweepFrom, sweptMap, bounds_of}
-use Rattle.device.specs.Applied.{appliedAnswer, appliedState}
-use Rattle.device.specs.Layout.{joined, layout, parts_of, state_of, stateWords}
-use Rattle.device.specs.State.{guard_of, withGuard, resetState}
-use Rattle.device.specs.Step.{memoryStep, step}
+use Rattle.spans.specs.Sweep.{next_of, sweep_from, swept_map, bounds_of}
+use Rattle.device.specs.Applied.{applied_answer, applied_state}
+use Rattle.device.specs.Layout.{joined, layout, parts_of, state_of, state_words}
+use Rattle.device.specs.State.{guard_of, with_guard, reset_state}
+use Rattle.device.specs.Step.{memory_step, step}
 use Rattle.device.specs.declared.event.Event.{Event}
 use Rattle.device.specs.declared.event.Event.TheVariants.{Reset, Memory}
-use Rattle.map.specs.Bounds.{pairsOf}
-use Rattle.map.specs.Map.{rightsOf, rows_of}
+use Rattle.map.specs.Bounds.{pairs_of}
+use Rattle.map.specs.Map.{rights_of, rows_of}
 use Rattle.map.proofs.Steady.{rows-swept}
 use Rattle.print.specs.Bytes.{bytes}
-use Rattle.print.specs.Print.{digitsOf, width_in, width_of, decimalText, answerLine, spanLine, labelLine}
-use Rattle.script.specs.Command.{commandOf, byKeyword, lines_of, resetLine, blocksOf, requestFields, peripheralLine, memoryLine, masterLine, mapLine, rightsFields, targetFields}
+use Rattle.print.specs.Print.{digits_of, width_in, width_of, decimal_text, answer_line, span_line, label_line}
+use Rattle.script.specs.Command.{command_of, by_keyword, lines_of, reset_line, blocks_of, request_fields, peripheral_line, memory_line, master_line, map_line, rights_fields, target_fields}
 use Rattle.script.specs.Fields.{fields_of, onto, same}
-use Rattle.script.specs.Numbers.{every, valueFrom, hexOf, decimalOf, either_of, operationOf}
+use Rattle.script.specs.Numbers.{every, value_from, hex_of, decimal_of, either_of, operation_of}
 use Rattle.script.specs.declared.command.Command.TheVariants.{Event as AnEvent, Map}
-use Rattle.response.specs.Response.{answerText, mapText, text_of, leftBy}
-use Rattle.response.specs.Sheet.{sheet, spanLines}
+use Rattle.response.specs.Response.{answer_text, map_text, text_of, left_by}
+use Rattle.response.specs.Sheet.{sheet, span_lines}
 
 -- ---- the sample, tabs and line feeds as bytes
 
@@ -59,35 +59,35 @@ access =
       kind = record { cid = record { 0 = 1 }; write = false; privileged = true; secure = true };
     })
 
-reads : (commandOf line1 ≡ AnEvent access) × (commandOf line2 ≡ Map (record { 0 = 2 }))
-unfolding commandOf byKeyword lines_of resetLine blocksOf requestFields peripheralLine memoryLine masterLine mapLine rightsFields targetFields fields_of onto same every valueFrom hexOf decimalOf either_of operationOf
+reads : (command_of line1 ≡ AnEvent access) × (command_of line2 ≡ Map (record { 0 = 2 }))
+unfolding command_of by_keyword lines_of reset_line blocks_of request_fields peripheral_line memory_line master_line map_line rights_fields target_fields fields_of onto same every value_from hex_of decimal_of either_of operation_of
 reads = (refl, refl)
 
 -- ---- the memory after reset, whatever it held
 
 abbrev start : List ℕ
-start = layout resetState
+start = layout reset_state
 
-started : (m : List ℕ) → length m ≡ stateWords → appliedState Reset m ≡ start
-unfolding appliedState step
-started m h = rw (eq-eqb (length m) stateWords h)
+started : (m : List ℕ) → length m ≡ state_words → applied_state Reset m ≡ start
+unfolding applied_state step
+started m h = rw (eq-eqb (length m) state_words h)
 
 -- ---- the access is granted, and leaves the memory as it was
 
-first : (text_of (AnEvent access) 1 start ≡ text1) × (leftBy (AnEvent access) start ≡ start)
-unfolding text_of leftBy answerText answerLine digitsOf width_in width_of decimalText appliedAnswer appliedState layout joined parts_of state_of resetState rifsc-reset iac-reset reset step memoryStep memoryStepped memoryAnswer memoryChecks answeredWith reachedWith shapeIn shape_of guard_of withGuard decided tests
+first : (text_of (AnEvent access) 1 start ≡ text1) × (left_by (AnEvent access) start ≡ start)
+unfolding text_of left_by answer_text answer_line digits_of width_in width_of decimal_text applied_answer applied_state layout joined parts_of state_of reset_state rifsc-reset iac-reset reset step memory_step memory_stepped memory_answer memory_checks answered_with reached_with shape_in shape_of guard_of with_guard decided tests
 first = (refl, refl)
 
 -- ---- the map's text is its sheet, whose rows a sweep computes (rows-swept)
 
 asked : text_of (Map (record { 0 = 2 })) 2 start ≡ sheet 2 (rows_of (state_of start) 2)
-unfolding text_of mapText layout joined resetState rifsc-reset iac-reset reset shapeIn shape_of
+unfolding text_of map_text layout joined reset_state rifsc-reset iac-reset reset shape_in shape_of
 asked = refl
 
 swept : sheet 2
-    (sweptMap (rightsOf (state_of start) 2) (bounds_of (pairsOf (guard_of (state_of start) 2).regions (shape_of 2).regions)) (shape_of 2).window)
+    (swept_map (rights_of (state_of start) 2) (bounds_of (pairs_of (guard_of (state_of start) 2).regions (shape_of 2).regions)) (shape_of 2).window)
     ≡ text2
-unfolding sheet spanLines labelLine spanLine digitsOf width_in width_of decimalText size sweptMap sweepFrom next_of bounds_of join pairsOf rightsOf rightsWord decided tests layout joined parts_of state_of resetState rifsc-reset iac-reset reset shapeIn shape_of guard_of
+unfolding sheet span_lines label_line span_line digits_of width_in width_of decimal_text size swept_map sweep_from next_of bounds_of join pairs_of rights_of rights_word decided tests layout joined parts_of state_of reset_state rifsc-reset iac-reset reset shape_in shape_of guard_of
 swept = refl
 
 second : text_of (Map (record { 0 = 2 })) 2 start ≡ text2
@@ -95,7 +95,7 @@ second = asked ∙ ap (sheet 2) (rows-swept (state_of start) 2) ∙ swept
 
 -- ---- Whatever the lent memory held: reset, then line 1 and line 2, print the four lines.
 
-pub sample : (m : List ℕ) → length m ≡ stateWords
-    → text_of (commandOf line1) 1 (appliedState Reset m) ++ text_of (commandOf line2) 2 (leftBy (commandOf line1) (appliedState Reset m))
+pub sample : (m : List ℕ) → length m ≡ state_words
+    → text_of (command_of line1) 1 (applied_state Reset m) ++ text_of (command_of line2) 2 (left_by (command_of line1) (applied_state Reset m))
     ≡ bytes "ans\t0\t00000000\nguard\t2\nspan\t00000000\t000fffff\t8282000000000000\nend\t1\n"
 sample m h = rw (started m h, reads.0, reads.1, first.1, first.0, second)

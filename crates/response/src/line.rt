@@ -1,9 +1,9 @@
 ghost use Rattle.std.specs.Prelude.{◌≡◌, ◌+◌, ◌≤◌, length};
-ghost use Rattle.device.specs.Applied.{appliedAnswer, appliedState};
-ghost use Rattle.script.specs.Command.{commandOf};
+ghost use Rattle.device.specs.Applied.{applied_answer, applied_state};
+ghost use Rattle.script.specs.Command.{command_of};
 ghost use Rattle.print.specs.Parts.{Wrote};
-ghost use Rattle.print.specs.Print.{badLine};
-ghost use Rattle.response.specs.Response.{answerText, bytesAfter, most, leftBy, placeAfter, stateAfter, text_of};
+ghost use Rattle.print.specs.Print.{bad_line};
+ghost use Rattle.response.specs.Response.{answer_text, bytes_after, most, left_by, place_after, state_after, text_of};
 
 use crate::sheet::{put_answer, put_map};
 use device::Event;
@@ -15,8 +15,8 @@ pub const RESPONSE_MOST: usize = 2800;
 // An event, applied and its answer printed.
 fn obey_event(event: Event, state: &mut [u32], out: &mut [u8], at: usize) -> usize
     requires { at + most ≤ length out.old }
-    ensures wrote { Wrote out.old at (answerText (appliedAnswer event state.old)) out.new result }
-    ensures state_after { state.new ≡ appliedState event state.old }
+    ensures wrote { Wrote out.old at (answer_text (applied_answer event state.old)) out.new result }
+    ensures state_after { state.new ≡ applied_state event state.old }
 {
     let answer = device::apply(state, event);
     put_answer(out, at, answer)
@@ -25,7 +25,7 @@ fn obey_event(event: Event, state: &mut [u32], out: &mut [u8], at: usize) -> usi
 // A line that is bad.
 fn put_bad(out: &mut [u8], at: usize, number: u64) -> usize
     requires { at + most ≤ length out.old }
-    ensures { Wrote out.old at (badLine number) out.new result }
+    ensures { Wrote out.old at (bad_line number) out.new result }
 {
     print_bad(out, at, number)
 }
@@ -33,8 +33,8 @@ fn put_bad(out: &mut [u8], at: usize, number: u64) -> usize
 // A line obeyed and printed, where there is room for whatever it prints.
 fn obey(line: &[u8], number: u64, state: &mut [u32], out: &mut [u8], at: usize) -> usize
     requires { at + most ≤ length out.old }
-    ensures wrote { Wrote out.old at (text_of (commandOf line.now) number state.old) out.new result }
-    ensures state_after { state.new ≡ leftBy (commandOf line.now) state.old }
+    ensures wrote { Wrote out.old at (text_of (command_of line.now) number state.old) out.new result }
+    ensures state_after { state.new ≡ left_by (command_of line.now) state.old }
 {
     let command = read_line(line);
     if let Command::Map(guard) = command {
@@ -49,9 +49,9 @@ fn obey(line: &[u8], number: u64, state: &mut [u32], out: &mut [u8], at: usize) 
 // A line's bytes before the line feed, obeyed: its text goes to `out` from `at` on, and the place after it is given back. `number` is
 // the line's own, counted from 1. With room for fewer than RESPONSE_MOST bytes nothing is done, and the place is the same.
 pub fn respond(line: &[u8], number: u64, state: &mut [u32], out: &mut [u8], at: usize) -> usize
-    ensures place { result ≡ placeAfter line.now number state.old out.old at }
-    ensures bytes { out.new ≡ bytesAfter line.now number state.old out.old at }
-    ensures next { state.new ≡ stateAfter line.now state.old out.old at }
+    ensures place { result ≡ place_after line.now number state.old out.old at }
+    ensures bytes { out.new ≡ bytes_after line.now number state.old out.old at }
+    ensures next { state.new ≡ state_after line.now state.old out.old at }
 {
     if out.len() < at {
         return at;

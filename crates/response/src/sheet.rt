@@ -1,10 +1,10 @@
 ghost use Rattle.std.specs.Prelude.{◌≡◌, ◌+◌, ◌*◌, ◌/◌, ◌≤◌, length};
-ghost use Rattle.map.specs.Fill.{leastRoom, rowNumbers};
+ghost use Rattle.map.specs.Fill.{least_room, row_numbers};
 ghost use Rattle.print.specs.Parts.{Wrote};
-ghost use Rattle.print.specs.Print.{spanLine};
-ghost use Rattle.spans.specs.Rows.{end, rights, rowsIn, start};
-ghost use Rattle.response.specs.Response.{answerText, mapText, most};
-ghost use Rattle.response.specs.Sheet.{sheet, spanLines};
+ghost use Rattle.print.specs.Print.{span_line};
+ghost use Rattle.spans.specs.Rows.{end, rights, rows_in, start};
+ghost use Rattle.response.specs.Response.{answer_text, map_text, most};
+ghost use Rattle.response.specs.Sheet.{sheet, span_lines};
 
 use access::Answer;
 use map::fill::{LEAST_ROOM, ROW_NUMBERS};
@@ -15,15 +15,15 @@ use script::{print_answer, print_end, print_guard, print_span};
 // The line of an answer.
 pub(crate) fn put_answer(out: &mut [u8], at: usize, answer: Answer) -> usize
     requires { at + most ≤ length out.old }
-    ensures { Wrote out.old at (answerText answer) out.new result }
+    ensures { Wrote out.old at (answer_text answer) out.new result }
 {
     print_answer(out, at, answer.number(), answer.value())
 }
 
 // The line of row k of a map.
 fn put_row(out: &mut [u8], at: usize, map: &[u64], k: usize) -> usize
-    requires { (at + 40 ≤ length out.old) × (rowNumbers * k + rowNumbers ≤ length map.now) }
-    ensures { Wrote out.old at (spanLine (start map.now k) (end map.now k) (rights map.now k)) out.new result }
+    requires { (at + 40 ≤ length out.old) × (row_numbers * k + row_numbers ≤ length map.now) }
+    ensures { Wrote out.old at (span_line (start map.now k) (end map.now k) (rights map.now k)) out.new result }
 {
     let i = ROW_NUMBERS * k;
     print_span(out, at, map[i], map[i + 1], map[i + 2])
@@ -31,8 +31,8 @@ fn put_row(out: &mut [u8], at: usize, map: &[u64], k: usize) -> usize
 
 // The lines of the first count rows of a map.
 fn put_rows(out: &mut [u8], at: usize, map: &[u64], count: usize) -> usize
-    requires { (at + 40 * count ≤ length out.old) × (rowNumbers * count ≤ length map.now) }
-    ensures { Wrote out.old at (spanLines (rowsIn count map.now)) out.new result }
+    requires { (at + 40 * count ≤ length out.old) × (row_numbers * count ≤ length map.now) }
+    ensures { Wrote out.old at (span_lines (rows_in count map.now)) out.new result }
 {
     let mut p = at;
     for k in 0..count {
@@ -43,8 +43,8 @@ fn put_rows(out: &mut [u8], at: usize, map: &[u64], count: usize) -> usize
 
 // The sheet of a map.
 fn put_sheet(out: &mut [u8], at: usize, guard: GuardNumber, map: &[u64]) -> usize
-    requires { (at + most ≤ length out.old) × (length map.now ≤ leastRoom) }
-    ensures { Wrote out.old at (sheet guard.0 (rowsIn (length map.now / rowNumbers) map.now)) out.new result }
+    requires { (at + most ≤ length out.old) × (length map.now ≤ least_room) }
+    ensures { Wrote out.old at (sheet guard.0 (rows_in (length map.now / row_numbers) map.now)) out.new result }
 {
     let count = map.len() / ROW_NUMBERS;
     let a = print_guard(out, at, guard);
@@ -60,8 +60,8 @@ fn put_filled(
     guard: GuardNumber,
     lent: &mut [u64],
 ) -> usize
-    requires { (at + most ≤ length out.old) × (length lent.old ≡ leastRoom) }
-    ensures { Wrote out.old at (mapText state.now guard.0) out.new result }
+    requires { (at + most ≤ length out.old) × (length lent.old ≡ least_room) }
+    ensures { Wrote out.old at (map_text state.now guard.0) out.new result }
 {
     let filled = map::fill::fill(state, guard, lent);
     let answer = filled.answer;
@@ -75,7 +75,7 @@ fn put_filled(
 // The map of a guard.
 pub(crate) fn put_map(out: &mut [u8], at: usize, state: &[u32], guard: GuardNumber) -> usize
     requires { at + most ≤ length out.old }
-    ensures { Wrote out.old at (mapText state.now guard.0) out.new result }
+    ensures { Wrote out.old at (map_text state.now guard.0) out.new result }
 {
     let mut lent = [0u64; LEAST_ROOM];
     put_filled(out, at, state, guard, &mut lent)

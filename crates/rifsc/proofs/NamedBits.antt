@@ -14,10 +14,10 @@ use Rattle.access.specs.Offset.{within}
 use Rattle.access.specs.declared.answer.Answer.{Answer}
 use Rattle.access.specs.declared.answer.Answer.TheVariants.{Done, Refused, Rejected}
 use Rattle.access.specs.declared.request.Request.{Request}
-use Rattle.rifsc.specs.Contents.{stored, withStored, isLocked, seen}
+use Rattle.rifsc.specs.Contents.{stored, with_stored, is_locked, seen}
 use Rattle.rifsc.specs.Masters.{masters}
-use Rattle.rifsc.specs.Port.{read_of, attrBits, takes, wordWritten, checksOf, answer_of, written, stepped}
-use Rattle.rifsc.specs.Registers.{registerAt, row_of}
+use Rattle.rifsc.specs.Port.{read_of, attr_bits, takes, word_written, checks_of, answer_of, written, stepped}
+use Rattle.rifsc.specs.Registers.{register_at, row_of}
 use Rattle.rifsc.specs.declared.contents.Rifsc.{Rifsc}
 use Rattle.rifsc.specs.declared.port.Seen.{Seen}
 use Rattle.rifsc.specs.declared.registers.Lock.{Lock}
@@ -47,8 +47,8 @@ module _ {R : ℕ → ℕ → ℕ → Type 0} {M r r' : Rifsc} (z : R 0 0 0) (a 
   stored-alike (Ppsr x) = z
   stored-alike Unknown = z
 
-  with-alike : {v v' : ℕ} (reg : Register) → R (stored M reg) v v' → Alike R M (withStored r reg v) (withStored r' reg v')
-  unfolding stored withStored
+  with-alike : {v v' : ℕ} (reg : Register) → R (stored M reg) v v' → Alike R M (with_stored r reg v) (with_stored r' reg v')
+  unfolding stored with_stored
   with-alike Cr e = record { cr = e; seccfgr = a.seccfgr; privcfgr = a.privcfgr; rcfglockr = a.rcfglockr; rimccr = a.rimccr; attr = a.attr }
   with-alike (Seccfgr x) e =
       record { cr = a.cr; seccfgr = each_set a.seccfgr x 0 e; privcfgr = a.privcfgr; rcfglockr = a.rcfglockr; rimccr = a.rimccr; attr = a.attr }
@@ -63,8 +63,8 @@ module _ {R : ℕ → ℕ → ℕ → Type 0} {M r r' : Rifsc} (z : R 0 0 0) (a 
   with-alike Unknown e = a
 
 -- what is stored for a register, stored again
-stored-again : (r : Rifsc) (reg : Register) → withStored r reg (stored r reg) ≡ r
-unfolding stored withStored
+stored-again : (r : Rifsc) (reg : Register) → with_stored r reg (stored r reg) ≡ r
+unfolding stored with_stored
 stored-again r Cr = refl
 stored-again r (Seccfgr x) = rw (set-get_or r.seccfgr x 0)
 stored-again r (Privcfgr x) = rw (set-get_or r.privcfgr x 0)
@@ -85,8 +85,8 @@ Placed (Attr m) = m < masters
 Placed (Ppsr x) = Unit {0}
 Placed Unknown = Unit {0}
 
-pub register-placed : (o : ℕ) → Placed (registerAt o)
-unfolding registerAt
+pub register-placed : (o : ℕ) → Placed (register_at o)
+unfolding register_at
 register-placed o =
     go (eqb o 0x000) _ _ (λ e. tt)
     (go (within 0x010 0x027 o) _ _ (λ e. tt)
@@ -110,7 +110,7 @@ Has M = (reg : Register) → Placed reg → Within (row_of reg).named (stored M 
 
 -- ---- the word that a write leaves
 
-attr-within : (value : ℕ) → Within (attrBits value) 0x0000_0370
+attr-within : (value : ℕ) → Within (attr_bits value) 0x0000_0370
 unfolding masked
 attr-within value = go (eqb (field value 4 3) debugger.0)
   where
@@ -130,39 +130,39 @@ takes_none (Rcfglockr x) v value secure j l h = ap (λ (b : Bool). b && bit valu
 takes_none Rimccr v value secure j l h =
     ap₂ (λ (a b : Bool). a || b && bit value j) (within-not 0x0000_0700 0x0000_0701 (within-masked 0x0000_0700 0x0000_0701 refl) j l h)
     (within-not 0x0000_0001 0x0000_0701 (within-masked 0x0000_0001 0x0000_0701 refl) j l h)
-takes_none (Attr m) v value secure j l h = within-not (attrBits value) 0x0000_0370 (attr-within value) j l h
+takes_none (Attr m) v value secure j l h = within-not (attr_bits value) 0x0000_0370 (attr-within value) j l h
 takes_none (Ppsr x) v value secure j l h = refl
 takes_none Unknown v value secure j l h = refl
 
 -- ---- an access changes named bits alone
 
 -- what an access to a register looks at
-abbrev seenOf : Rifsc → Register → Seen
-seenOf r reg = seen r reg (row_of reg).lock (row_of reg).index
+abbrev seen_of : Rifsc → Register → Seen
+seen_of r reg = seen r reg (row_of reg).lock (row_of reg).index
 
 -- what it leaves, by its answer; w says whether it is a write
 abbrev leaves : Answer → Bool → Rifsc → Register → Request → Rifsc
-leaves a w r reg q = left a r (cond w (withStored r reg (wordWritten reg (row_of reg) (seenOf r reg) q.value q.secure)) r) r
+leaves a w r reg q = left a r (cond w (with_stored r reg (word_written reg (row_of reg) (seen_of r reg) q.value q.secure)) r) r
 
 module _ {M r : Rifsc} (has : Has M) (own : Alike Kept M r r) where
   word_kept : (reg : Register) → Placed reg → (value : ℕ) (secure : Bool)
-      → Kept (stored M reg) (wordWritten reg (row_of reg) (seenOf r reg) value secure) (stored r reg)
-  unfolding wordWritten seen
+      → Kept (stored M reg) (word_written reg (row_of reg) (seen_of r reg) value secure) (stored r reg)
+  unfolding word_written seen
   word_kept reg placed value secure =
       kept_word (stored M reg) (stored r reg) _
       (λ j l h.
       ap (λ (b : Bool). cond b (bit value j) (bit (stored r reg) j))
-      (takes_none reg (seenOf r reg) value secure j l (within-not (row_of reg).named (stored M reg) (has reg placed) j l h)))
+      (takes_none reg (seen_of r reg) value secure j l (within-not (row_of reg).named (stored M reg) (has reg placed) j l h)))
 
   pub stepped_kept : (q : Request) → Alike Kept M (stepped r q).next r
   unfolding stepped written
   stepped_kept q = go (stepped r q).answer q.write
     where
-      go : (a : Answer) (w : Bool) → Alike Kept M (leaves a w r (registerAt q.offset) q) r
+      go : (a : Answer) (w : Bool) → Alike Kept M (leaves a w r (register_at q.offset) q) r
       go (Done v) true =
-          subst (Alike Kept M (withStored r (registerAt q.offset) _)) (stored-again r (registerAt q.offset))
-          (with-alike (kept_refl 0 0) own (registerAt q.offset)
-          (word_kept (registerAt q.offset) (register-placed q.offset) q.value q.secure))
+          subst (Alike Kept M (with_stored r (register_at q.offset) _)) (stored-again r (register_at q.offset))
+          (with-alike (kept_refl 0 0) own (register_at q.offset)
+          (word_kept (register_at q.offset) (register-placed q.offset) q.value q.secure))
       go (Done v) false = own
       go (Refused v) w = own
       go (Rejected why) w = own
@@ -176,16 +176,16 @@ module _ {M r r' : Rifsc} (has : Has M) (same : Alike Same M r r') where
   pub bit-same : (reg : Register) → Placed reg → (j : ℕ) → j < 32 → bit (row_of reg).named j ≡ true → bit (stored r reg) j ≡ bit (stored r' reg) j
   bit-same reg placed j l h = (stored_same reg).bits j l (has reg placed j l h)
 
-  locked-same : (lock : Lock) → isLocked r lock ≡ isLocked r' lock
+  locked-same : (lock : Lock) → is_locked r lock ≡ is_locked r' lock
   unfolding stored row_of
   locked-same Glock = bit-same Cr tt 0 (lit< tt) refl
   locked-same RimcLock = bit-same Rimccr tt 0 (lit< tt) refl
   locked-same Never = refl
 
   answer-same : (q : Request) → (stepped r q).answer ≡ (stepped r' q).answer
-  unfolding stepped answer_of checksOf read_of seen
+  unfolding stepped answer_of checks_of read_of seen
   answer-same q =
-      let reg = registerAt q.offset in
+      let reg = register_at q.offset in
       rw (
         locked-same (row_of reg).lock,
         same-masked (row_of reg).named (stored M reg) _ _ (has reg (register-placed q.offset)) (stored_same reg),
@@ -193,7 +193,7 @@ module _ {M r r' : Rifsc} (has : Has M) (same : Alike Same M r r') where
 
   -- a named bit is taken of both or of none
   takes_same : (reg : Register) (value : ℕ) (secure : Bool) (j : ℕ) → j < 32 → bit (row_of reg).named j ≡ true
-      → takes reg (row_of reg) (seenOf r reg) value secure j ≡ takes reg (row_of reg) (seenOf r' reg) value secure j
+      → takes reg (row_of reg) (seen_of r reg) value secure j ≡ takes reg (row_of reg) (seen_of r' reg) value secure j
   unfolding takes row_of stored seen
   takes_same Cr value secure j l h = refl
   takes_same (Seccfgr x) value secure j l h = rw (bit-same (Rcfglockr x) tt j l h)
@@ -205,24 +205,24 @@ module _ {M r r' : Rifsc} (has : Has M) (same : Alike Same M r r') where
   takes_same Unknown value secure j l h = refl
 
   word_same : (reg : Register) (value : ℕ) (secure : Bool)
-      → Same (stored M reg) (wordWritten reg (row_of reg) (seenOf r reg) value secure) (wordWritten reg (row_of reg) (seenOf r' reg) value secure)
-  unfolding wordWritten seen
+      → Same (stored M reg) (word_written reg (row_of reg) (seen_of r reg) value secure) (word_written reg (row_of reg) (seen_of r' reg) value secure)
+  unfolding word_written seen
   word_same reg value secure =
       same_word (stored M reg) _ _
       (λ j l h. ap₂ (λ (a b : Bool). cond a (bit value j) b) (either j l (bit (row_of reg).named j) refl) ((stored_same reg).bits j l h))
     where
       either : (j : ℕ) → j < 32 → (b : Bool) → bit (row_of reg).named j ≡ b
-          → takes reg (row_of reg) (seenOf r reg) value secure j ≡ takes reg (row_of reg) (seenOf r' reg) value secure j
+          → takes reg (row_of reg) (seen_of r reg) value secure j ≡ takes reg (row_of reg) (seen_of r' reg) value secure j
       either j l true e = takes_same reg value secure j l e
-      either j l false e = takes_none reg (seenOf r reg) value secure j l e ∙ sym (takes_none reg (seenOf r' reg) value secure j l e)
+      either j l false e = takes_none reg (seen_of r reg) value secure j l e ∙ sym (takes_none reg (seen_of r' reg) value secure j l e)
 
   pub stepped_same : (q : Request) → ((stepped r q).answer ≡ (stepped r' q).answer) × Alike Same M (stepped r q).next (stepped r' q).next
   unfolding stepped written
   stepped_same q = let e = answer-same q in (e, rw e (go (stepped r' q).answer q.write))
     where
-      go : (a : Answer) (w : Bool) → Alike Same M (leaves a w r (registerAt q.offset) q) (leaves a w r' (registerAt q.offset) q)
+      go : (a : Answer) (w : Bool) → Alike Same M (leaves a w r (register_at q.offset) q) (leaves a w r' (register_at q.offset) q)
       go (Done v) true =
-          let reg = registerAt q.offset in
+          let reg = register_at q.offset in
           with-alike (same_refl 0 0) same reg (word_same reg q.value q.secure)
       go (Done v) false = same
       go (Refused v) w = same

@@ -7,11 +7,11 @@ use Rattle.words.specs.Bit.{bit, word, field, masked, less, merged, united}
 use Rattle.words.proofs.Laws.{bit-less, less-lt, word-ext}
 use Rattle.words.proofs.Masks.{merged-word, united-masked}
 use Rattle.access.specs.Answer.{left}
-use Rattle.access.specs.Checks.{answeredWith, reachedWith}
+use Rattle.access.specs.Checks.{answered_with, reached_with}
 use Rattle.access.specs.declared.answer.Answer.{Answer}
 use Rattle.access.specs.declared.answer.Answer.TheVariants.{Done, Refused, Rejected}
 use Rattle.access.specs.declared.request.Request.{Request}
-use Rattle.rifsc.specs.Port.{accessed, answer_of, attrBits, checksOf, readAnswer, takes, withSeenWord, wordWritten}
+use Rattle.rifsc.specs.Port.{accessed, answer_of, attr_bits, checks_of, read_answer, takes, with_seen_word, word_written}
 use Rattle.rifsc.specs.declared.port.Accessed.{Accessed}
 use Rattle.rifsc.specs.declared.port.Seen.{Seen}
 use Rattle.rifsc.specs.declared.registers.Row.{Row}
@@ -36,7 +36,7 @@ unfolding takes
 rimc-taken row v value secure = united-masked 32 0x0000_0700 value 0x0000_0001
 
 pub attr-taken : (m : ℕ) (row : Row) (v : Seen) (value : ℕ) (secure : Bool)
-    → attrBits value ≡ word 32 (takes (Attr m) row v value secure)
+    → attr_bits value ≡ word 32 (takes (Attr m) row v value secure)
 unfolding takes
 attr-taken m row v value secure = go (eqb (field value 4 3) 7)
   where
@@ -47,8 +47,8 @@ attr-taken m row v value secure = go (eqb (field value 4 3) 7)
 -- ---- a read
 
 pub read_is : (row : Row) (locked : Bool) (stored : ℕ) (q : Request) → q.write ≡ false
-    → answer_of row locked stored q ≡ readAnswer row stored q.offset
-unfolding answer_of checksOf answeredWith reachedWith readAnswer
+    → answer_of row locked stored q ≡ read_answer row stored q.offset
+unfolding answer_of checks_of answered_with reached_with read_answer
 read_is row locked stored q w = rw w refl
 
 -- leaves all as it was
@@ -61,9 +61,9 @@ same v (Refused x) = refl
 same v (Rejected why) = refl
 
 pub read_left : (reg : Register) (row : Row) (v : Seen) (q : Request) → q.write ≡ false
-    → leaving v (readAnswer row v.word q.offset) ≡ accessed reg row v q
+    → leaving v (read_answer row v.word q.offset) ≡ accessed reg row v q
 unfolding accessed
-read_left reg row v q w = rw (read_is row v.locked v.word q w, w) (same v (readAnswer row v.word q.offset))
+read_left reg row v q w = rw (read_is row v.locked v.word q w, w) (same v (read_answer row v.word q.offset))
 
 -- ---- a write that passes every test
 
@@ -71,10 +71,10 @@ module _ (reg : Register) (row : Row) (v : Seen) (q : Request) (w : q.write ≡ 
     (k : row.known ≡ true) (r : (q.privileged && (q.secure || not row.secure)) ≡ true) (d : row.writable ≡ true)
     (l : v.locked ≡ false) where
   done : answer_of row v.locked v.word q ≡ Done 0
-  unfolding answer_of checksOf answeredWith reachedWith
+  unfolding answer_of checks_of answered_with reached_with
   done = simp (w, a, k, r, d, l)
 
   pub write-left : {x : ℕ} → x ≡ merged 32 v.word q.value (word 32 (takes reg row v q.value q.secure))
-      → leaving (withSeenWord v x) (Done 0) ≡ accessed reg row v q
-  unfolding accessed wordWritten
+      → leaving (with_seen_word v x) (Done 0) ≡ accessed reg row v q
+  unfolding accessed word_written
   write-left e = rw (done, w, e, merged-word 32 v.word q.value (takes reg row v q.value q.secure)) refl

@@ -1,7 +1,7 @@
 -- The controller's registers as stored, and reset: document 01, "RIFSC".
 use Rattle.std.specs.Prelude.{Bool, false, ℕ, get_or, set, replicate}
 use Rattle.words.specs.Bit.{bit}
-use Rattle.words.specs.Six.{bitWords}
+use Rattle.words.specs.Six.{bit_words}
 use Rattle.rifsc.specs.Masters.{masters}
 use Rattle.rifsc.specs.declared.registers.Lock.{Lock}
 use Rattle.rifsc.specs.declared.registers.Lock.TheVariants.{Glock, RimcLock, Never}
@@ -22,8 +22,8 @@ stored r (Ppsr x) = 0
 stored r Unknown = 0
 
 -- the controller with another word stored for a register
-unfoldable pub withStored : Rifsc → Register → ℕ → Rifsc
-withStored r Cr v =
+unfoldable pub with_stored : Rifsc → Register → ℕ → Rifsc
+with_stored r Cr v =
     record {
       cr = v;
       seccfgr = r.seccfgr;
@@ -32,7 +32,7 @@ withStored r Cr v =
       rimccr = r.rimccr;
       attr = r.attr;
     }
-withStored r (Seccfgr x) v =
+with_stored r (Seccfgr x) v =
     record {
       cr = r.cr;
       seccfgr = set r.seccfgr x v;
@@ -41,7 +41,7 @@ withStored r (Seccfgr x) v =
       rimccr = r.rimccr;
       attr = r.attr;
     }
-withStored r (Privcfgr x) v =
+with_stored r (Privcfgr x) v =
     record {
       cr = r.cr;
       seccfgr = r.seccfgr;
@@ -50,7 +50,7 @@ withStored r (Privcfgr x) v =
       rimccr = r.rimccr;
       attr = r.attr;
     }
-withStored r (Rcfglockr x) v =
+with_stored r (Rcfglockr x) v =
     record {
       cr = r.cr;
       seccfgr = r.seccfgr;
@@ -59,7 +59,7 @@ withStored r (Rcfglockr x) v =
       rimccr = r.rimccr;
       attr = r.attr;
     }
-withStored r Rimccr v =
+with_stored r Rimccr v =
     record {
       cr = r.cr;
       seccfgr = r.seccfgr;
@@ -68,7 +68,7 @@ withStored r Rimccr v =
       rimccr = v;
       attr = r.attr;
     }
-withStored r (Attr m) v =
+with_stored r (Attr m) v =
     record {
       cr = r.cr;
       seccfgr = r.seccfgr;
@@ -77,20 +77,20 @@ withStored r (Attr m) v =
       rimccr = r.rimccr;
       attr = set r.attr m v;
     }
-withStored r (Ppsr x) v = r
-withStored r Unknown v = r
+with_stored r (Ppsr x) v = r
+with_stored r Unknown v = r
 
 -- GLOCK of CR, GLOCK of RIMC_CR
-abbrev pub isLocked : Rifsc → Lock → Bool
-isLocked r Glock = bit r.cr 0
-isLocked r RimcLock = bit r.rimccr 0
-isLocked r Never = false
+abbrev pub is_locked : Rifsc → Lock → Bool
+is_locked r Glock = bit r.cr 0
+is_locked r RimcLock = bit r.rimccr 0
+is_locked r Never = false
 
 -- what an access to a register looks at, whose row of the table has this lock and index
 unfoldable pub seen : Rifsc → Register → Lock → ℕ → Seen
 seen r reg lock index =
     record {
-      locked = isLocked r lock;
+      locked = is_locked r lock;
       rlock = get_or r.rcfglockr index 0;
       sec = get_or r.seccfgr index 0;
       word = stored r reg;
@@ -101,9 +101,9 @@ unfoldable pub reset : Rifsc
 reset =
     record {
       cr = 0;
-      seccfgr = replicate bitWords 0;
-      privcfgr = replicate bitWords 0;
-      rcfglockr = replicate bitWords 0;
+      seccfgr = replicate bit_words 0;
+      privcfgr = replicate bit_words 0;
+      rcfglockr = replicate bit_words 0;
       rimccr = 0x0000_0710;
       attr = replicate masters 0;
     }

@@ -14,23 +14,23 @@ use Rattle.rifsc.specs.declared.contents.Rifsc.{Rifsc}
 abbrev pub masters : ℕ
 masters = 13
 
-unfoldable pub isMaster : MasterNumber → Bool
-isMaster m = ltb m.0 masters
+unfoldable pub is_master : MasterNumber → Bool
+is_master m = ltb m.0 masters
 
 -- the guarding peripherals of masters 1 to 12, in order
 abbrev pub guarding : List ℕ
 guarding = 106 ∷ 53 ∷ 54 ∷ 56 ∷ 57 ∷ 60 ∷ 99 ∷ 101 ∷ 93 ∷ 103 ∷ 104 ∷ 97 ∷ []
 
 -- a master's guarding peripheral; 0 stands for master 0, which has none
-unfoldable pub guardingOf : MasterNumber → PeripheralNumber
-guardingOf m = record { 0 = get_or (0 ∷ guarding) m.0 0 }
+unfoldable pub guarding_of : MasterNumber → PeripheralNumber
+guarding_of m = record { 0 = get_or (0 ∷ guarding) m.0 0 }
 
 -- a master's ATTR, and the SEC bit of its guarding peripheral, which for master 0 counts as 1
-unfoldable pub attributesOf : Rifsc → MasterNumber → Attributes
-attributesOf r m =
+unfoldable pub attributes_of : Rifsc → MasterNumber → Attributes
+attributes_of r m =
     record {
       attr = get_or r.attr m.0 0;
-      sec = eqb m.0 0 || bit_at r.seccfgr (guardingOf m).0;
+      sec = eqb m.0 0 || bit_at r.seccfgr (guarding_of m).0;
     }
 
 -- MCID is bits 6:4, MSEC bit 8, MPRIV bit 9

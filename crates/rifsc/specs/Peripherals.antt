@@ -11,8 +11,8 @@ unfoldable pub exists : PeripheralNumber → Bool
 exists p = ltb p.0 128 && bit_at ppsrs p.0
 
 -- SEC and PRIV of a peripheral
-unfoldable pub filterOf : Rifsc → PeripheralNumber → Filter
-filterOf r p = record { sec = bit_at r.seccfgr p.0; privileged = bit_at r.privcfgr p.0 }
+unfoldable pub filter_of : Rifsc → PeripheralNumber → Filter
+filter_of r p = record { sec = bit_at r.seccfgr p.0; privileged = bit_at r.privcfgr p.0 }
 
 -- SEC is 0 or the access is secure, and PRIV is 0 or it is privileged
 unfoldable pub grants : Filter → Bool → Bool → Bool

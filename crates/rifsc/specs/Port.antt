@@ -10,8 +10,8 @@ use Rattle.access.specs.declared.answer.Answer.TheVariants.{Done, Rejected}
 use Rattle.access.specs.declared.answer.Why.TheVariants.{Misaligned, NoRegister}
 use Rattle.access.specs.declared.checks.Checks.{Checks}
 use Rattle.access.specs.declared.request.Request.{Request}
-use Rattle.rifsc.specs.Registers.{registerAt, row_of}
-use Rattle.rifsc.specs.Contents.{withStored, seen}
+use Rattle.rifsc.specs.Registers.{register_at, row_of}
+use Rattle.rifsc.specs.Contents.{with_stored, seen}
 use Rattle.rifsc.specs.declared.registers.Row.{Row}
 use Rattle.rifsc.specs.declared.registers.Register.{Register}
 use Rattle.rifsc.specs.declared.registers.Register.TheVariants.{Cr, Seccfgr, Privcfgr, Rcfglockr, Rimccr, Attr, Ppsr, Unknown}
@@ -27,8 +27,8 @@ read_of row stored = united 32 (masked 32 stored row.named) row.fixed
 -- ---- the word that a write leaves: bit i is the write's where it is taken
 
 -- a write with MCID (6:4) 7 leaves MCID as it was, and takes MSEC (8) and MPRIV (9)
-abbrev pub attrBits : ℕ → ℕ
-attrBits value = cond (eqb (field value 4 3) debugger.0) 0x0000_0300 0x0000_0370
+abbrev pub attr_bits : ℕ → ℕ
+attr_bits value = cond (eqb (field value 4 3) debugger.0) 0x0000_0300 0x0000_0370
 
 unfoldable pub takes : Register → Row → Seen → ℕ → Bool → ℕ → Bool
 -- a lock bit is set by 1 and not cleared by 0
@@ -40,18 +40,18 @@ takes (Privcfgr x) row v value secure i =
     bit row.named i && not (bit v.rlock i) && (secure || not (bit v.sec i))
 -- DAPCID (10:8) is taken, and GLOCK is a lock bit
 takes Rimccr row v value secure i = bit 0x0000_0700 i || bit 0x0000_0001 i && bit value i
-takes (Attr m) row v value secure i = bit (attrBits value) i
+takes (Attr m) row v value secure i = bit (attr_bits value) i
 takes (Ppsr x) row v value secure i = false
 takes Unknown row v value secure i = false
 
-unfoldable pub wordWritten : Register → Row → Seen → ℕ → Bool → ℕ
-wordWritten reg row v value secure =
+unfoldable pub word_written : Register → Row → Seen → ℕ → Bool → ℕ
+word_written reg row v value secure =
     word 32 (λ i. cond (takes reg row v value secure i) (bit value i) (bit v.word i))
 
 -- ---- the checks, in their order; any read is allowed, a write needs privileged and, but for PRIVCFGR, secure
 
-unfoldable pub checksOf : Row → Bool → Request → Checks
-checksOf row locked q =
+unfoldable pub checks_of : Row → Bool → Request → Checks
+checks_of row locked q =
     record {
       present = true;
       aligned = eqb (q.offset % 4) 0;
@@ -64,30 +64,30 @@ checksOf row locked q =
     }
 
 unfoldable pub answer_of : Row → Bool → ℕ → Request → Answer
-answer_of row locked stored q = answered (checksOf row locked q) (gives q (read_of row stored))
+answer_of row locked stored q = answered (checks_of row locked q) (gives q (read_of row stored))
 
 -- of a read, by its offset: what code goes by
-unfoldable pub readAnswer : Row → ℕ → ℕ → Answer
-readAnswer row stored offset =
+unfoldable pub read_answer : Row → ℕ → ℕ → Answer
+read_answer row stored offset =
     unless (eqb (offset % 4) 0) (Rejected Misaligned) (unless row.known (Rejected NoRegister) (Done (read_of row stored)))
 
 -- ---- an access to what it needs of the controller, by value
 
-abbrev pub withSeenWord : Seen → ℕ → Seen
-withSeenWord v w = record { locked = v.locked; rlock = v.rlock; sec = v.sec; word = w }
+abbrev pub with_seen_word : Seen → ℕ → Seen
+with_seen_word v w = record { locked = v.locked; rlock = v.rlock; sec = v.sec; word = w }
 
 unfoldable pub accessed : Register → Row → Seen → Request → Accessed
 accessed reg row v q =
     let a = answer_of row v.locked v.word q in
     record {
-      next = left a v (cond q.write (withSeenWord v (wordWritten reg row v q.value q.secure)) v) v;
+      next = left a v (cond q.write (with_seen_word v (word_written reg row v q.value q.secure)) v) v;
       answer = a;
     }
 
 -- ---- what an access leaves; a refusal leaves the controller as it was, and its flag is the IAC's
 
 unfoldable pub written : Rifsc → Register → Row → Seen → Request → Rifsc
-written r reg row v q = cond q.write (withStored r reg (wordWritten reg row v q.value q.secure)) r
+written r reg row v q = cond q.write (with_stored r reg (word_written reg row v q.value q.secure)) r
 
 pub record Stepped : Type 0 where
   pub next : Rifsc
@@ -95,7 +95,7 @@ pub record Stepped : Type 0 where
 
 unfoldable pub stepped : Rifsc → Request → Stepped
 stepped r q =
-    let reg = registerAt q.offset in
+    let reg = register_at q.offset in
     let row = row_of reg in
     let v = seen r reg row.lock row.index in
     let a = answer_of row v.locked v.word q in

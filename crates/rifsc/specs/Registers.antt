@@ -8,8 +8,8 @@ use Rattle.rifsc.specs.declared.registers.Register.{Register}
 use Rattle.rifsc.specs.declared.registers.Register.TheVariants.{Cr, Seccfgr, Privcfgr, Rcfglockr, Rimccr, Attr, Ppsr, Unknown}
 
 -- the register at an offset that is a multiple of 4
-unfoldable pub registerAt : ℕ → Register
-registerAt o =
+unfoldable pub register_at : ℕ → Register
+register_at o =
     cond (eqb o 0x000) Cr
     (cond (within 0x010 0x027 o) (Seccfgr ((o - 0x010) / 4))
     (cond (within 0x030 0x047 o) (Privcfgr ((o - 0x030) / 4))

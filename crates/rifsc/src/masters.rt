@@ -1,5 +1,5 @@
 ghost use Rattle.std.specs.Prelude.{◌≡◌};
-ghost use Rattle.rifsc.specs.Masters.{carried, guardingOf, isMaster};
+ghost use Rattle.rifsc.specs.Masters.{carried, guarding_of, is_master};
 
 use crate::peripherals::PeripheralNumber;
 use access::{Cid, Kind};
@@ -21,14 +21,14 @@ const MPRIV: u32 = 9;
 
 impl MasterNumber {
     pub fn exists(self) -> bool
-        ensures { result ≡ isMaster self }
+        ensures { result ≡ is_master self }
     {
         self.0 < MASTERS as u32
     }
 
     // The peripheral that guards the master. Master 0 has none: 0, as for a number that is no master's.
     pub fn guarding(self) -> PeripheralNumber
-        ensures { result ≡ guardingOf self }
+        ensures { result ≡ guarding_of self }
     {
         let m = self.0;
         match m {

@@ -1,6 +1,6 @@
 ghost use Rattle.std.specs.Prelude.{◌≡◌, cond};
 ghost use Rattle.words.specs.Bit.{field, less, word};
-ghost use Rattle.rifsc.specs.Port.{accessed, attrBits, readAnswer, takes};
+ghost use Rattle.rifsc.specs.Port.{accessed, attr_bits, read_answer, takes};
 
 use crate::Register;
 use crate::masters::{MCID_AT, MCID_WIDE};
@@ -38,7 +38,7 @@ fn unless_sec(bits: u32, sec: u32, secure: bool) -> u32
 
 // The bits that a write to ATTR takes: MCID 7 leaves MCID as it was.
 fn attr_taken(value: u32) -> u32
-    ensures { result ≡ attrBits value }
+    ensures { result ≡ attr_bits value }
 {
     if words::field_of(value, MCID_AT, MCID_WIDE) == DEBUGGER.0 {
         return ATTR_FLAGS;
@@ -65,7 +65,7 @@ fn taken(reg: Register, row: Row, v: Seen, value: u32, secure: bool) -> u32
 impl Row {
     // The answer to a read of a register with this row and this word. Any read is allowed, so that only the offset counts.
     pub fn read(self, word: u32, offset: u32) -> Answer
-        ensures { result ≡ readAnswer self word offset }
+        ensures { result ≡ read_answer self word offset }
     {
         if offset % 4 != 0 {
             return Answer::Rejected(Why::Misaligned);

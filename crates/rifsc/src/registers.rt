@@ -1,5 +1,5 @@
 ghost use Rattle.std.specs.Prelude.{◌≡◌};
-ghost use Rattle.rifsc.specs.Registers.{ppsr, registerAt, row, row_of};
+ghost use Rattle.rifsc.specs.Registers.{ppsr, register_at, row, row_of};
 
 // A register of the controller, with its index where it is one of several.
 #[derive(Drop)]
@@ -67,7 +67,7 @@ pub(crate) fn ppsr(x: usize) -> u32
 
 // The register at an offset that is a multiple of 4.
 pub fn register_at(offset: u32) -> Register
-    ensures { result ≡ registerAt offset }
+    ensures { result ≡ register_at offset }
 {
     match offset {
         0x000 => Register::Cr,

@@ -11,7 +11,7 @@ use borrow.Author.Tests.{eqb-true}
 use Rattle.words.specs.Bit.{bit, less, united}
 use Rattle.words.proofs.Laws.{word-ext, bit_high, bit-upper, bit-lower, bit-zero, bit-ones, bit-shr}
 use Rattle.access.specs.Fold.{any}
-use Rattle.risaf.specs.Guards.{GuardRow, guards, lowBits, shape_of, isGuard}
+use Rattle.risaf.specs.Guards.{GuardRow, guards, low_bits, shape_of, is_guard}
 use Rattle.risaf.specs.Port.{word_in}
 use Rattle.risaf.specs.declared.guards.Shape.{Shape}
 use Rattle.risaf.specs.declared.port.Port.{Port}
@@ -30,35 +30,35 @@ module _ (n k v : ℕ) (h : k ≤ n) (l : v < 2 ^ n) where
       subst (λ (x : ℕ). with-low low < x) (sym (ap (λ (x : ℕ). 2 ^ x) e ∙ pow-add 2 (n - k) k))
       (digits_lt (shr_lt (n - k) k (subst (λ (x : ℕ). v < 2 ^ x) e l)) m)
 
-  low_bit : (low i : ℕ) → low < 2 ^ k → bit (with-low low) i ≡ cond (bit (lowBits (2 ^ k)) i) (bit low i) (bit v i)
+  low_bit : (low i : ℕ) → low < 2 ^ k → bit (with-low low) i ≡ cond (bit (low_bits (2 ^ k)) i) (bit low i) (bit v i)
   low_bit low i m = go (dec_lt i k)
     where
-      go : Dec (i < k) → bit (with-low low) i ≡ cond (bit (lowBits (2 ^ k)) i) (bit low i) (bit v i)
+      go : Dec (i < k) → bit (with-low low) i ≡ cond (bit (low_bits (2 ^ k)) i) (bit low i) (bit v i)
       go (yes j) = rw (bit-ones k i j) (bit-lower (v / 2 ^ k) k low i m j)
       go (no r) =
           let e : i ≡ k + (i - k) = omega arith in
-          let past : bit (lowBits (2 ^ k)) i ≡ false = bit_high k (lowBits (2 ^ k)) i (pow-sub-lt k (omega arith)) (omega arith) in
+          let past : bit (low_bits (2 ^ k)) i ≡ false = bit_high k (low_bits (2 ^ k)) i (pow-sub-lt k (omega arith)) (omega arith) in
           rw past
           (ap (bit (with-low low)) e ∙ bit-upper (v / 2 ^ k) k low (i - k) m ∙ bit-shr v k (i - k) ∙ sym (ap (bit v) e))
 
-  start_is : less n v (lowBits (2 ^ k)) ≡ v / 2 ^ k * 2 ^ k
+  start_is : less n v (low_bits (2 ^ k)) ≡ v / 2 ^ k * 2 ^ k
   unfolding less
   start_is =
       let z : v / 2 ^ k * 2 ^ k ≡ with-low 0 = omega arith in
       sym
       (z ∙ word-ext n (with-low 0) _ (low_fits 0 (pow_pos k))
-      (λ i _. low_bit 0 i (pow_pos k) ∙ rw (bit-zero i) (cleared (bit (lowBits (2 ^ k)) i) (bit v i))))
+      (λ i _. low_bit 0 i (pow_pos k) ∙ rw (bit-zero i) (cleared (bit (low_bits (2 ^ k)) i) (bit v i))))
     where
       cleared : (m b : Bool) → cond m false b ≡ (b && not m)
       cleared true b = sym (and-false b)
       cleared false b = sym (and-true b)
 
-  end_is : united n v (lowBits (2 ^ k)) ≡ v / 2 ^ k * 2 ^ k + lowBits (2 ^ k)
+  end_is : united n v (low_bits (2 ^ k)) ≡ v / 2 ^ k * 2 ^ k + low_bits (2 ^ k)
   unfolding united
   end_is =
-      let m : lowBits (2 ^ k) < 2 ^ k = pow-sub-lt k (omega arith) in
-      sym (word-ext n (with-low (lowBits (2 ^ k))) _ (low_fits _ m)
-      (λ i _. low_bit _ i m ∙ raised (bit (lowBits (2 ^ k)) i) (bit v i)))
+      let m : low_bits (2 ^ k) < 2 ^ k = pow-sub-lt k (omega arith) in
+      sym (word-ext n (with-low (low_bits (2 ^ k))) _ (low_fits _ m)
+      (λ i _. low_bit _ i m ∙ raised (bit (low_bits (2 ^ k)) i) (bit v i)))
     where
       raised : (m b : Bool) → cond m m b ≡ (b || m)
       raised true b = sym (or-true b)
@@ -82,7 +82,7 @@ by-power P (suc n) g e each = go (eqb g (2 ^ n)) refl e (λ f. by-power P n g f 
     go false q f below = below (sym (or-false _) ∙ f)
 
 -- what holds of every power of 2 holds of a guard's granule
-by-granule : (P : ℕ → Type 0) → ((k : ℕ) → k ≤ 32 → P (2 ^ k)) → (n : ℕ) → isGuard n ≡ true → P (shape_of n).granule
+by-granule : (P : ℕ → Type 0) → ((k : ℕ) → k ≤ 32 → P (2 ^ k)) → (n : ℕ) → is_guard n ≡ true → P (shape_of n).granule
 unfolding powered
 by-granule P each n =
     by-guard (λ (s : Shape). s.there ≡ true → P s.granule) n (λ e. absurd (true≢false (sym e)))
@@ -90,14 +90,14 @@ by-granule P each n =
 
 -- ---- what a write leaves
 
-module _ (n : ℕ) (h : isGuard n ≡ true) (named : ℕ) (p : Port) (value : ℕ) (secure : Bool) (l : value < 2 ^ 32) where
+module _ (n : ℕ) (h : is_guard n ≡ true) (named : ℕ) (p : Port) (value : ℕ) (secure : Bool) (l : value < 2 ^ 32) where
   abbrev granule : ℕ
   granule = (shape_of n).granule
 
   pub start-written : word_in GranuleStart granule named p value secure ≡ value / granule * granule
   unfolding word_in
-  start-written = by-granule (λ g. less 32 value (lowBits g) ≡ value / g * g) (λ k i. start_is 32 k value i l) n h
+  start-written = by-granule (λ g. less 32 value (low_bits g) ≡ value / g * g) (λ k i. start_is 32 k value i l) n h
 
   pub end-written : word_in GranuleEnd granule named p value secure ≡ value / granule * granule + (granule - 1)
   unfolding word_in
-  end-written = by-granule (λ g. united 32 value (lowBits g) ≡ value / g * g + lowBits g) (λ k i. end_is 32 k value i l) n h
+  end-written = by-granule (λ g. united 32 value (low_bits g) ≡ value / g * g + low_bits g) (λ k i. end_is 32 k value i l) n h

@@ -7,7 +7,7 @@ use native.Mathlib.Omega.{arith}
 use lib.Dec.{lit<}
 use lib.ListN.{get_or}
 use lib.Seq.{set-get_or}
-use Rattle.words.specs.Bit.{bit, field, withBit}
+use Rattle.words.specs.Bit.{bit, field, with_bit}
 use Rattle.words.proofs.Laws.{field-ext}
 use Rattle.words.proofs.Alike.{Whole, Kept, Same, kept_refl, same_refl, kept_set, same_set, same-masked, field-full, each-get}
 use Rattle.access.specs.Answer.{left}
@@ -15,11 +15,11 @@ use Rattle.access.specs.declared.answer.Answer.{Answer}
 use Rattle.access.specs.declared.answer.Answer.TheVariants.{Done, Refused, Rejected}
 use Rattle.access.specs.declared.bus.Bus.{Bus}
 use Rattle.access.specs.declared.request.Request.{Request}
-use Rattle.regions.specs.Words.{secBit, base, sub, nestAt}
-use Rattle.risaf.specs.Contents.{iasrAt, headWords, guardWords, guardFrom, withWord}
-use Rattle.risaf.specs.Registers.{registerAt}
-use Rattle.risaf.specs.Rows.{PlacedIn, ofHead, ofBase, ofSub, row_of}
-use Rattle.risaf.specs.Port.{portIn, read_of, delegated, allowedOf, lockedOf, wordWritten, checksOf, answer_of, withPortWord, refusedPort, accessed, stepped}
+use Rattle.regions.specs.Words.{sec_bit, base, sub, nest_at}
+use Rattle.risaf.specs.Contents.{iasr_at, head_words, guard_words, guard_from, with_word}
+use Rattle.risaf.specs.Registers.{register_at}
+use Rattle.risaf.specs.Rows.{PlacedIn, of_head, of_base, of_sub, row_of}
+use Rattle.risaf.specs.Port.{port_in, read_of, delegated, allowed_of, locked_of, word_written, checks_of, answer_of, with_port_word, refused_port, accessed, stepped}
 use Rattle.risaf.specs.declared.contents.Guard.{Guard}
 use Rattle.risaf.specs.declared.guards.Shape.{Shape}
 use Rattle.risaf.specs.declared.port.Port.{Port}
@@ -36,40 +36,40 @@ use Rattle.risaf.proofs.NamedWords.{Alike, Has, words-alike, word-alike, row-who
 abbrev leaves : ℕ → Answer → Bool → Guard → Register → Request → Guard
 leaves granule a w g reg q =
     let row = row_of reg in
-    let p = portIn (guardWords g) row in
-    let t = left a p (cond w (withPortWord p (wordWritten granule row p q.value q.secure)) p) (refusedPort p) in
-    left a g (cond w (withWord g row.place t.word) g) (withWord g iasrAt t.iasr)
+    let p = port_in (guard_words g) row in
+    let t = left a p (cond w (with_port_word p (word_written granule row p q.value q.secure)) p) (refused_port p) in
+    left a g (cond w (with_word g row.place t.word) g) (with_word g iasr_at t.iasr)
 
 -- ---- an access changes named bits alone
 
 module _ {n : ℕ} {G g : Guard} (has : Has n G) (own : Alike Kept G g g) where
-  stored-kept : (place v : ℕ) → Kept (get_or (guardWords G) place 0) v (get_or (guardWords g) place 0) → Alike Kept G (withWord g place v) g
-  unfolding withWord
+  stored-kept : (place v : ℕ) → Kept (get_or (guard_words G) place 0) v (get_or (guard_words g) place 0) → Alike Kept G (with_word g place v) g
+  unfolding with_word
   stored-kept place v r =
-      subst (Alike Kept G (withWord g place v)) (ap guardFrom (set-get_or (guardWords g) place 0)) (word-alike place (kept_refl 0 0) own r)
+      subst (Alike Kept G (with_word g place v)) (ap guard_from (set-get_or (guard_words g) place 0)) (word-alike place (kept_refl 0 0) own r)
 
   -- where it is done
   written-kept : (granule : ℕ) (reg : Register) → PlacedIn n reg → (value : ℕ) (secure : Bool)
-      → Alike Kept G (withWord g (row_of reg).place (wordWritten granule (row_of reg) (portIn (guardWords g) (row_of reg)) value secure)) g
-  unfolding portIn
+      → Alike Kept G (with_word g (row_of reg).place (word_written granule (row_of reg) (port_in (guard_words g) (row_of reg)) value secure)) g
+  unfolding port_in
   written-kept granule reg placed value secure =
       let row = row_of reg in
-      let mask = get_or (guardWords G) row.place 0 in
+      let mask = get_or (guard_words G) row.place 0 in
       stored-kept row.place _
-      (word_kept granule row.named mask value secure row.form (portIn (guardWords g) row) (row-whole reg) (has reg placed))
+      (word_kept granule row.named mask value secure row.form (port_in (guard_words g) row) (row-whole reg) (has reg placed))
 
   -- where it is refused
-  refused-kept : Alike Kept G (withWord g iasrAt (withBit 32 g.iasr 0 true)) g
-  unfolding row_of ofHead
-  refused-kept = stored-kept iasrAt _ (kept_set G.iasr g.iasr 0 (has (OfHead Iasr) tt 0 (lit< tt) refl))
+  refused-kept : Alike Kept G (with_word g iasr_at (with_bit 32 g.iasr 0 true)) g
+  unfolding row_of of_head
+  refused-kept = stored-kept iasr_at _ (kept_set G.iasr g.iasr 0 (has (OfHead Iasr) tt 0 (lit< tt) refl))
 
 pub stepped_kept : (shape : Shape) {G g : Guard} → Has shape.regions G → Alike Kept G g g → (q : Request)
     → Alike Kept G (stepped shape g q).next g
-unfolding stepped accessed portIn
-stepped_kept shape {G} {g} has own q = go (answer_of shape (row_of reg) (portIn (guardWords g) (row_of reg)) q) q.write
+unfolding stepped accessed port_in
+stepped_kept shape {G} {g} has own q = go (answer_of shape (row_of reg) (port_in (guard_words g) (row_of reg)) q) q.write
   where
     reg : Register
-    reg = registerAt shape.regions q.offset
+    reg = register_at shape.regions q.offset
 
     go : (a : Answer) (w : Bool) → Alike Kept G (leaves shape.granule a w g reg q) g
     go (Done v) true = written-kept has own shape.granule reg (register-own shape.regions q.offset) q.value q.secure
@@ -81,50 +81,50 @@ stepped_kept shape {G} {g} has own q = go (answer_of shape (row_of reg) (portIn 
 
 module _ {n : ℕ} {G g g' : Guard} (has : Has n G) (same : Alike Same G g g') where
   abbrev port : Register → Port
-  port reg = portIn (guardWords g) (row_of reg)
+  port reg = port_in (guard_words g) (row_of reg)
 
   abbrev port' : Register → Port
-  port' reg = portIn (guardWords g') (row_of reg)
+  port' reg = port_in (guard_words g') (row_of reg)
 
-  stored_same : (place : ℕ) → Same (get_or (guardWords G) place 0) (get_or (guardWords g) place 0) (get_or (guardWords g') place 0)
+  stored_same : (place : ℕ) → Same (get_or (guard_words G) place 0) (get_or (guard_words g) place 0) (get_or (guard_words g') place 0)
   stored_same place = each-get (words-alike same) (same_refl 0 0) place
 
   pub bit-same : (reg : Register) → PlacedIn n reg → (j : ℕ) → j < 32 → bit (row_of reg).named j ≡ true
-      → bit (get_or (guardWords g) (row_of reg).place 0) j ≡ bit (get_or (guardWords g') (row_of reg).place 0) j
+      → bit (get_or (guard_words g) (row_of reg).place 0) j ≡ bit (get_or (guard_words g') (row_of reg).place 0) j
   bit-same reg placed j l h = (stored_same (row_of reg).place).bits j l (has reg placed j l h)
 
   pub whole_same : (reg : Register) → PlacedIn n reg → Whole (row_of reg).named
-      → get_or (guardWords g) (row_of reg).place 0 ≡ get_or (guardWords g') (row_of reg).place 0
+      → get_or (guard_words g) (row_of reg).place 0 ≡ get_or (guard_words g') (row_of reg).place 0
   whole_same reg placed all = (stored_same (row_of reg).place).whole (λ j l. has reg placed j l (all j l))
 
   glock-same : bit g.cr 0 ≡ bit g'.cr 0
-  unfolding row_of ofHead
+  unfolding row_of of_head
   glock-same = bit-same (OfHead Cr) tt 0 (lit< tt) refl
 
   -- RLOCK of a subregion, SEC of its base region, DCEN and DCCID
   module _ (x s : ℕ) (h : x < n) (l : s < 2) where
-    rlock-same : bit (get_or (guardWords g) (headWords + sub x s) 0) 1 ≡ bit (get_or (guardWords g') (headWords + sub x s) 0) 1
-    unfolding row_of ofSub
+    rlock-same : bit (get_or (guard_words g) (head_words + sub x s) 0) 1 ≡ bit (get_or (guard_words g') (head_words + sub x s) 0) 1
+    unfolding row_of of_sub
     rlock-same = rw add-zero at (bit-same (OfSub x s SubCfgr) (h, l) 1 (lit< tt) refl)
 
-    sec-same : bit (get_or (guardWords g) (headWords + base x) 0) secBit ≡ bit (get_or (guardWords g') (headWords + base x) 0) secBit
-    unfolding row_of ofBase
-    sec-same = rw add-zero at (bit-same (OfBase x Cfgr) h secBit (lit< tt) refl)
+    sec-same : bit (get_or (guard_words g) (head_words + base x) 0) sec_bit ≡ bit (get_or (guard_words g') (head_words + base x) 0) sec_bit
+    unfolding row_of of_base
+    sec-same = rw add-zero at (bit-same (OfBase x Cfgr) h sec_bit (lit< tt) refl)
 
     abbrev nest : Guard → ℕ
-    nest t = get_or (guardWords t) (headWords + sub x s + nestAt) 0
+    nest t = get_or (guard_words t) (head_words + sub x s + nest_at) 0
 
     dcen-same : bit (nest g) 2 ≡ bit (nest g') 2
-    unfolding row_of ofSub
+    unfolding row_of of_sub
     dcen-same = bit-same (OfSub x s Nest) (h, l) 2 (lit< tt) refl
 
     dccid-same : field (nest g) 4 3 ≡ field (nest g') 4 3
-    unfolding row_of ofSub
+    unfolding row_of of_sub
     dccid-same = field-ext (nest g) (nest g') 4 3 (λ k i. bit-same (OfSub x s Nest) (h, l) (4 + k) (omega arith) (field-full _ 4 3 refl k i))
 
   allowed_same : (bus : Bus) (reg : Register) → PlacedIn n reg → (q : Request)
-      → allowedOf bus (row_of reg) (port reg) q ≡ allowedOf bus (row_of reg) (port' reg) q
-  unfolding row_of ofHead ofBase ofSub allowedOf delegated portIn
+      → allowed_of bus (row_of reg) (port reg) q ≡ allowed_of bus (row_of reg) (port' reg) q
+  unfolding row_of of_head of_base of_sub allowed_of delegated port_in
   allowed_same bus (OfHead Cr) placed q = refl
   allowed_same bus (OfHead Iasr) placed q = refl
   allowed_same bus (OfHead Iacr) placed q = refl
@@ -140,8 +140,8 @@ module _ {n : ℕ} {G g g' : Guard} (has : Has n G) (same : Alike Same G g g') w
   allowed_same bus (OfSub x s Nest) placed q = refl
   allowed_same bus Unknown placed q = refl
 
-  locked-same : (reg : Register) → PlacedIn n reg → lockedOf (row_of reg).lock (port reg) ≡ lockedOf (row_of reg).lock (port' reg)
-  unfolding row_of ofHead ofBase ofSub portIn
+  locked-same : (reg : Register) → PlacedIn n reg → locked_of (row_of reg).lock (port reg) ≡ locked_of (row_of reg).lock (port' reg)
+  unfolding row_of of_head of_base of_sub port_in
   locked-same (OfHead Cr) placed = glock-same
   locked-same (OfHead Iasr) placed = glock-same
   locked-same (OfHead Iacr) placed = refl
@@ -158,37 +158,37 @@ module _ {n : ℕ} {G g g' : Guard} (has : Has n G) (same : Alike Same G g g') w
   locked-same Unknown placed = glock-same
 
   read_same : (reg : Register) → PlacedIn n reg → read_of (row_of reg) (port reg).word ≡ read_of (row_of reg) (port' reg).word
-  unfolding read_of portIn
+  unfolding read_of port_in
   read_same reg placed = same-masked (row_of reg).named _ _ _ (has reg placed) (stored_same (row_of reg).place)
 
   answer-same : (shape : Shape) (reg : Register) → PlacedIn n reg → (q : Request)
       → answer_of shape (row_of reg) (port reg) q ≡ answer_of shape (row_of reg) (port' reg) q
-  unfolding answer_of checksOf
+  unfolding answer_of checks_of
   answer-same shape reg placed q = rw (allowed_same shape.bus reg placed q, locked-same reg placed, read_same reg placed)
 
   -- where it is done
   written_same : (granule : ℕ) (reg : Register) → PlacedIn n reg → (value : ℕ) (secure : Bool)
-      → Alike Same G (withWord g (row_of reg).place (wordWritten granule (row_of reg) (port reg) value secure))
-      (withWord g' (row_of reg).place (wordWritten granule (row_of reg) (port' reg) value secure))
-  unfolding portIn
+      → Alike Same G (with_word g (row_of reg).place (word_written granule (row_of reg) (port reg) value secure))
+      (with_word g' (row_of reg).place (word_written granule (row_of reg) (port' reg) value secure))
+  unfolding port_in
   written_same granule reg placed value secure =
       let row = row_of reg in
       word-alike row.place (same_refl 0 0) same
       (word_same granule row.named _ value secure row.form (port reg) (port' reg) glock-same (stored_same row.place))
 
   -- where it is refused
-  refused-same : Alike Same G (withWord g iasrAt (withBit 32 g.iasr 0 true)) (withWord g' iasrAt (withBit 32 g'.iasr 0 true))
-  refused-same = word-alike iasrAt (same_refl 0 0) same (same_set G.iasr g.iasr g'.iasr 0 same.iasr)
+  refused-same : Alike Same G (with_word g iasr_at (with_bit 32 g.iasr 0 true)) (with_word g' iasr_at (with_bit 32 g'.iasr 0 true))
+  refused-same = word-alike iasr_at (same_refl 0 0) same (same_set G.iasr g.iasr g'.iasr 0 same.iasr)
 
 pub stepped_same : (shape : Shape) {G g g' : Guard} → Has shape.regions G → Alike Same G g g' → (q : Request)
     → ((stepped shape g q).answer ≡ (stepped shape g' q).answer) × Alike Same G (stepped shape g q).next (stepped shape g' q).next
-unfolding stepped accessed portIn
+unfolding stepped accessed port_in
 stepped_same shape {G} {g} {g'} has same q =
     let e = answer-same has same shape reg own q in
-    (e, rw e (go (answer_of shape (row_of reg) (portIn (guardWords g') (row_of reg)) q) q.write))
+    (e, rw e (go (answer_of shape (row_of reg) (port_in (guard_words g') (row_of reg)) q) q.write))
   where
     reg : Register
-    reg = registerAt shape.regions q.offset
+    reg = register_at shape.regions q.offset
 
     own : PlacedIn shape.regions reg
     own = register-own shape.regions q.offset

@@ -2,10 +2,10 @@
 use Prim.Native.Nat.{ℕ, ◌<◌}
 use native.Mathlib.Omega.{arith}
 use lib.Dec.{lit<}
-use Rattle.regions.specs.Words.{mostRegions}
-use Rattle.risaf.specs.Contents.{guardSize}
-use Rattle.risaf.specs.Registers.{registerAt}
-use Rattle.risaf.specs.Rows.{Placed, ofHead, ofBase, ofSub, row_of}
+use Rattle.regions.specs.Words.{most_regions}
+use Rattle.risaf.specs.Contents.{guard_size}
+use Rattle.risaf.specs.Registers.{register_at}
+use Rattle.risaf.specs.Rows.{Placed, of_head, of_base, of_sub, row_of}
 use Rattle.risaf.specs.declared.registers.Head.{Head}
 use Rattle.risaf.specs.declared.registers.Head.TheVariants.{Cr, Iasr, Iacr, Iaesr, Iaddr}
 use Rattle.risaf.specs.declared.registers.BaseField.{BaseField}
@@ -16,34 +16,34 @@ use Rattle.risaf.specs.declared.registers.Register.{Register}
 use Rattle.risaf.specs.declared.registers.Register.TheVariants.{OfHead, OfBase, OfSub, Unknown}
 use Rattle.risaf.proofs.RegisterMap.{register-placed}
 
-head-place : (head : Head) → (ofHead head).place < guardSize
-unfolding ofHead
+head-place : (head : Head) → (of_head head).place < guard_size
+unfolding of_head
 head-place Cr = lit< tt
 head-place Iasr = lit< tt
 head-place Iacr = lit< tt
 head-place Iaesr = lit< tt
 head-place Iaddr = lit< tt
 
-base-place : (x : ℕ) (field : BaseField) → x < mostRegions → (ofBase x field).place < guardSize
-unfolding ofBase
+base-place : (x : ℕ) (field : BaseField) → x < most_regions → (of_base x field).place < guard_size
+unfolding of_base
 base-place x Cfgr h = omega arith
 base-place x Start h = omega arith
 base-place x End h = omega arith
 base-place x Cidcfgr h = omega arith
 
-sub-place : (x s : ℕ) (field : SubField) → x < mostRegions → s < 2 → (ofSub x s field).place < guardSize
-unfolding ofSub
+sub-place : (x s : ℕ) (field : SubField) → x < most_regions → s < 2 → (of_sub x s field).place < guard_size
+unfolding of_sub
 sub-place x s SubCfgr h l = omega arith
 sub-place x s SubStart h l = omega arith
 sub-place x s SubEnd h l = omega arith
 sub-place x s Nest h l = omega arith
 
-row-place : (reg : Register) → Placed reg → (row_of reg).place < guardSize
+row-place : (reg : Register) → Placed reg → (row_of reg).place < guard_size
 unfolding row_of
 row-place (OfHead head) h = head-place head
 row-place (OfBase x field) h = base-place x field h
 row-place (OfSub x s field) h = sub-place x s field h.0 h.1
 row-place Unknown h = lit< tt
 
-pub place-fits : (n o : ℕ) → (row_of (registerAt n o)).place < guardSize
-place-fits n o = row-place (registerAt n o) (register-placed n o)
+pub place-fits : (n o : ℕ) → (row_of (register_at n o)).place < guard_size
+place-fits n o = row-place (register_at n o) (register-placed n o)

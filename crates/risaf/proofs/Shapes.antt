@@ -7,9 +7,9 @@ use native.Mathlib.Omega.{arith}
 use lib.Dec.{eqb, leb, lit≤, lit<}
 use lib.ListN.{length, get_or}
 use borrow.Author.Tests.{leb-true, eqb-true}
-use Rattle.regions.specs.Words.{mostRegions}
+use Rattle.regions.specs.Words.{most_regions}
 use Rattle.access.specs.declared.bus.Bus.TheVariants.{Axi}
-use Rattle.risaf.specs.Guards.{GuardRow, guards, guardCount, shaped, no_shape, shapeIn, shape_of}
+use Rattle.risaf.specs.Guards.{GuardRow, guards, guard_count, shaped, no_shape, shape_in, shape_of}
 use Rattle.risaf.specs.declared.guards.Shape.{Shape}
 
 -- a row past the table's end
@@ -23,8 +23,8 @@ row_at gs i = get_or gs i no_row
 
 module _ (P : Shape → Type 0) (n : ℕ) (none : P no_shape) where
   by_rows : (gs : List GuardRow) (place : ℕ)
-      → ((i : ℕ) → i < length gs → n ≡ (row_at gs i).number → P (shaped (place + i) (row_at gs i))) → P (shapeIn gs place n)
-  unfolding shapeIn
+      → ((i : ℕ) → i < length gs → n ≡ (row_at gs i).number → P (shaped (place + i) (row_at gs i))) → P (shape_in gs place n)
+  unfolding shape_in
   by_rows [] place each = none
   by_rows (g ∷ gs) place each = go (eqb n g.number) refl (by_rows gs (suc place) next)
     where
@@ -33,15 +33,15 @@ module _ (P : Shape → Type 0) (n : ℕ) (none : P no_shape) where
           let s : suc place + i ≡ place + suc i = omega arith in
           rw s (each (suc i) (omega arith) q)
 
-      go : (t : Bool) → eqb n g.number ≡ t → P (shapeIn gs (suc place) n)
-          → P (cond t (shaped place g) (shapeIn gs (suc place) n))
+      go : (t : Bool) → eqb n g.number ≡ t → P (shape_in gs (suc place) n)
+          → P (cond t (shaped place g) (shape_in gs (suc place) n))
       go true e rest =
           let z : place ≡ place + 0 = omega arith in
           rw z (each 0 (omega arith) (eqb-true _ _ e))
       go false e rest = rest
 
   -- of guard n
-  pub by-guard : ((i : ℕ) → i < guardCount → n ≡ (row_at guards i).number → P (shaped i (row_at guards i))) → P (shape_of n)
+  pub by-guard : ((i : ℕ) → i < guard_count → n ≡ (row_at guards i).number → P (shaped i (row_at guards i))) → P (shape_of n)
   unfolding shape_of
   by-guard each = by_rows guards 0 (λ i h q. let z : 0 + i ≡ i = omega arith in rw z (each i h q))
 
@@ -67,24 +67,24 @@ passed t (g ∷ gs) e (suc i) h = passed t gs (and_right (t g) (every t gs) e) i
 
 -- no more base regions than there can be, and a window of at most 2^32
 fits : GuardRow → Bool
-fits g = leb g.regions mostRegions && leb g.window (2 ^ 32)
+fits g = leb g.regions most_regions && leb g.window (2 ^ 32)
 
 all_fit : every fits guards ≡ true
 unfolding every fits
 all_fit = refl
 
-pub regions-most : (n : ℕ) → (shape_of n).regions ≤ mostRegions
+pub regions-most : (n : ℕ) → (shape_of n).regions ≤ most_regions
 unfolding fits
 regions-most n =
-    by-guard (λ s. s.regions ≤ mostRegions) n (lit≤ tt) (λ i h q. leb-true _ _ (and_left _ _ (passed fits guards all_fit i h)))
+    by-guard (λ s. s.regions ≤ most_regions) n (lit≤ tt) (λ i h q. leb-true _ _ (and_left _ _ (passed fits guards all_fit i h)))
 
 pub window-most : (n : ℕ) → (shape_of n).window ≤ 2 ^ 32
 unfolding fits
 window-most n =
     by-guard (λ s. s.window ≤ 2 ^ 32) n (lit≤ tt)
-    (λ i h q. leb-true _ _ (and_right (leb (row_at guards i).regions mostRegions) _ (passed fits guards all_fit i h)))
+    (λ i h q. leb-true _ _ (and_right (leb (row_at guards i).regions most_regions) _ (passed fits guards all_fit i h)))
 
 -- ---- places
 
-pub place-lt : (n : ℕ) → (shape_of n).place < guardCount
-place-lt n = by-guard (λ s. s.place < guardCount) n (lit< tt) (λ i h q. h)
+pub place-lt : (n : ℕ) → (shape_of n).place < guard_count
+place-lt n = by-guard (λ s. s.place < guard_count) n (lit< tt) (λ i h q. h)

@@ -1,64 +1,64 @@
 -- A guard's registers as stored, where each word lies, and reset: document 01, "Guards".
 use Rattle.std.specs.Prelude.{List, [], ◌∷◌, ◌++◌, ℕ, zero, suc, ◌+◌, ◌*◌, get_or, set, drop}
-use Rattle.regions.specs.Words.{mostRegions, regionWords}
-use Rattle.risaf.specs.Guards.{lowBits}
+use Rattle.regions.specs.Words.{most_regions, region_words}
+use Rattle.risaf.specs.Guards.{low_bits}
 use Rattle.risaf.specs.declared.contents.Guard.{Guard}
 
 -- ---- a guard's words: CR, IASR, IAESR, IADDR, then the regions'
 
-abbrev pub crAt : ℕ
-crAt = 0
+abbrev pub cr_at : ℕ
+cr_at = 0
 
-abbrev pub iasrAt : ℕ
-iasrAt = 1
+abbrev pub iasr_at : ℕ
+iasr_at = 1
 
-abbrev pub iaesrAt : ℕ
-iaesrAt = 2
+abbrev pub iaesr_at : ℕ
+iaesr_at = 2
 
-abbrev pub iaddrAt : ℕ
-iaddrAt = 3
+abbrev pub iaddr_at : ℕ
+iaddr_at = 3
 
-abbrev pub headWords : ℕ
-headWords = 4
+abbrev pub head_words : ℕ
+head_words = 4
 
-abbrev pub regionsWords : ℕ
-regionsWords = mostRegions * regionWords
+abbrev pub regions_words : ℕ
+regions_words = most_regions * region_words
 
-abbrev pub guardSize : ℕ
-guardSize = headWords + regionsWords
+abbrev pub guard_size : ℕ
+guard_size = head_words + regions_words
 
-abbrev pub guardWords : Guard → List ℕ
-guardWords g = g.cr ∷ g.iasr ∷ g.iaesr ∷ g.iaddr ∷ g.regions
+abbrev pub guard_words : Guard → List ℕ
+guard_words g = g.cr ∷ g.iasr ∷ g.iaesr ∷ g.iaddr ∷ g.regions
 
 -- words as a guard
-abbrev pub guardFrom : List ℕ → Guard
-guardFrom w =
+abbrev pub guard_from : List ℕ → Guard
+guard_from w =
     record {
-      cr = get_or w crAt 0;
-      iasr = get_or w iasrAt 0;
-      iaesr = get_or w iaesrAt 0;
-      iaddr = get_or w iaddrAt 0;
-      regions = drop headWords w;
+      cr = get_or w cr_at 0;
+      iasr = get_or w iasr_at 0;
+      iaesr = get_or w iaesr_at 0;
+      iaddr = get_or w iaddr_at 0;
+      regions = drop head_words w;
     }
 
 -- the guard with another word at a place
-unfoldable pub withWord : Guard → ℕ → ℕ → Guard
-withWord g place v = guardFrom (set (guardWords g) place v)
+unfoldable pub with_word : Guard → ℕ → ℕ → Guard
+with_word g place v = guard_from (set (guard_words g) place v)
 
 -- ---- reset: all 0 but each END, the last byte of the first granule
 
 -- Q-6: "reset END is granule less 1"
-abbrev pub endReset : ℕ → ℕ
-endReset granule = lowBits granule
+abbrev pub end_reset : ℕ → ℕ
+end_reset granule = low_bits granule
 
-abbrev pub regionReset : ℕ → List ℕ
-regionReset granule =
-    let end = endReset granule in
+abbrev pub region_reset : ℕ → List ℕ
+region_reset granule =
+    let end = end_reset granule in
     0 ∷ 0 ∷ end ∷ 0 ∷ 0 ∷ 0 ∷ end ∷ 0 ∷ 0 ∷ 0 ∷ end ∷ 0 ∷ []
 
-abbrev pub regionsReset : ℕ → ℕ → List ℕ
-regionsReset granule zero = []
-regionsReset granule (suc n) = regionReset granule ++ regionsReset granule n
+abbrev pub regions_reset : ℕ → ℕ → List ℕ
+regions_reset granule zero = []
+regions_reset granule (suc n) = region_reset granule ++ regions_reset granule n
 
 unfoldable pub reset : ℕ → Guard
-reset granule = record { cr = 0; iasr = 0; iaesr = 0; iaddr = 0; regions = regionsReset granule mostRegions }
+reset granule = record { cr = 0; iasr = 0; iaesr = 0; iaddr = 0; regions = regions_reset granule most_regions }

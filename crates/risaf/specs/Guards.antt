@@ -40,12 +40,12 @@ guards =
     ∷ guard 23 3 4096 512 Ahb 157
     ∷ []
 
-abbrev pub guardCount : ℕ
-guardCount = length guards
+abbrev pub guard_count : ℕ
+guard_count = length guards
 
 -- the bits of an offset within a granule, whose size is a power of 2
-abbrev pub lowBits : ℕ → ℕ
-lowBits granule = granule - 1
+abbrev pub low_bits : ℕ → ℕ
+low_bits granule = granule - 1
 
 -- a guard by its row and its place
 abbrev pub shaped : ℕ → GuardRow → Shape
@@ -66,12 +66,12 @@ no_shape =
     record { there = false; place = 0; regions = 0; window = 0; granule = 0; bus = Axi; flag = record { 0 = 0 } }
 
 -- the shape of guard n by the rows of a table whose first has this place
-unfoldable pub shapeIn : List GuardRow → ℕ → ℕ → Shape
-shapeIn [] place n = no_shape
-shapeIn (g ∷ gs) place n = cond (eqb n g.number) (shaped place g) (shapeIn gs (suc place) n)
+unfoldable pub shape_in : List GuardRow → ℕ → ℕ → Shape
+shape_in [] place n = no_shape
+shape_in (g ∷ gs) place n = cond (eqb n g.number) (shaped place g) (shape_in gs (suc place) n)
 
 unfoldable pub shape_of : ℕ → Shape
-shape_of n = shapeIn guards 0 n
+shape_of n = shape_in guards 0 n
 
-abbrev pub isGuard : ℕ → Bool
-isGuard n = (shape_of n).there
+abbrev pub is_guard : ℕ → Bool
+is_guard n = (shape_of n).there

@@ -1,6 +1,6 @@
 -- A register access to a guard: document 01, "Register rights".
 use Rattle.std.specs.Prelude.{Bool, true, false, not, ◌&&◌, ◌||◌, cond, List, ℕ, ◌%◌, eqb, get_or}
-use Rattle.words.specs.Bit.{bit, word, field, masked, less, merged, united, withBit}
+use Rattle.words.specs.Bit.{bit, word, field, masked, less, merged, united, with_bit}
 use Rattle.access.specs.Answer.{left}
 use Rattle.access.specs.Checks.{answered, unless}
 use Rattle.access.specs.Kind.{equals}
@@ -13,10 +13,10 @@ use Rattle.access.specs.declared.bus.Bus.TheVariants.{Axi, Ahb}
 use Rattle.access.specs.declared.checks.Checks.{Checks}
 use Rattle.access.specs.declared.kind.Cid.{Cid}
 use Rattle.access.specs.declared.request.Request.{Request}
-use Rattle.regions.specs.Words.{secBit}
-use Rattle.risaf.specs.Contents.{crAt, iasrAt, guardWords, withWord}
-use Rattle.risaf.specs.Guards.{lowBits}
-use Rattle.risaf.specs.Registers.{registerAt}
+use Rattle.regions.specs.Words.{sec_bit}
+use Rattle.risaf.specs.Contents.{cr_at, iasr_at, guard_words, with_word}
+use Rattle.risaf.specs.Guards.{low_bits}
+use Rattle.risaf.specs.Registers.{register_at}
 use Rattle.risaf.specs.Rows.{row_of}
 use Rattle.risaf.specs.declared.contents.Guard.{Guard}
 use Rattle.risaf.specs.declared.guards.Shape.{Shape}
@@ -30,11 +30,11 @@ use Rattle.risaf.specs.declared.rows.Row.{Row}
 
 -- ---- what an access to a register needs of the guard: GLOCK, IASR, CFGR of its base region, CFGR and NEST of its subregion, its own word
 
-unfoldable pub portIn : List ℕ → Row → Port
-portIn w row =
+unfoldable pub port_in : List ℕ → Row → Port
+port_in w row =
     record {
-      glock = bit (get_or w crAt 0) 0;
-      iasr = get_or w iasrAt 0;
+      glock = bit (get_or w cr_at 0) 0;
+      iasr = get_or w iasr_at 0;
       base = get_or w row.base 0;
       sub = get_or w row.sub 0;
       nest = get_or w row.nest 0;
@@ -49,9 +49,9 @@ read_of row old = masked 32 old row.named
 -- ---- rights
 
 -- the compartment that the port always speaks as; on AHB, which carries none, it is 0 (Q-6: "the delegated compartment must be 0")
-abbrev pub portCid : Bus → Cid
-portCid Axi = record { 0 = 1 }
-portCid Ahb = record { 0 = 0 }
+abbrev pub port_cid : Bus → Cid
+port_cid Axi = record { 0 = 1 }
+port_cid Ahb = record { 0 = 0 }
 
 -- the compartment that a NEST delegates to (DCCID, 6:4)
 abbrev pub dccid : ℕ → Cid
@@ -60,32 +60,32 @@ dccid nest = record { 0 = field nest 4 3 }
 -- a subregion's CFGR, START and END: with DCEN (2) 0, secure; with DCEN 1, DCCID is the port's and secure or the base's SEC is 0
 unfoldable pub delegated : Bus → Port → Bool → Bool
 delegated bus p secure =
-    cond (bit p.nest 2) (equals (dccid p.nest) (portCid bus) && (secure || not (bit p.base secBit))) secure
+    cond (bit p.nest 2) (equals (dccid p.nest) (port_cid bus) && (secure || not (bit p.base sec_bit))) secure
 
 -- a write needs privileged, and secure but for what is delegated; the fault registers need both to read too
-unfoldable pub allowedOf : Bus → Row → Port → Request → Bool
-allowedOf bus row p q =
+unfoldable pub allowed_of : Bus → Row → Port → Request → Bool
+allowed_of bus row p q =
     cond q.write (q.privileged && cond row.delegable (delegated bus p q.secure) q.secure)
     (not row.guarded || q.secure && q.privileged)
 
 -- ---- locks: GLOCK; RLOCK (1) of the subregion
 
-abbrev pub lockedOf : Lock → Port → Bool
-lockedOf Glock p = p.glock
-lockedOf Rlock p = bit p.sub 1
-lockedOf Never p = false
+abbrev pub locked_of : Lock → Port → Bool
+locked_of Glock p = p.glock
+locked_of Rlock p = bit p.sub 1
+locked_of Never p = false
 
 -- ---- the word that a write leaves
 
 -- bit i of some bits, bit k only where it may be
-abbrev pub bitIf : ℕ → ℕ → Bool → ℕ → Bool
-bitIf bits k may i = bit bits i && (may || not (eqb i k))
+abbrev pub bit_if : ℕ → ℕ → Bool → ℕ → Bool
+bit_if bits k may i = bit bits i && (may || not (eqb i k))
 
 -- of a subregion's CFGR a write takes RLOCK (1) only while GLOCK is 1, and SEC (8) only where it is secure
-unfoldable pub subcfgrWritten : ℕ → Port → ℕ → Bool → ℕ
-subcfgrWritten named p value secure =
+unfoldable pub subcfgr_written : ℕ → Port → ℕ → Bool → ℕ
+subcfgr_written named p value secure =
     word 32
-    (λ i. cond (bitIf named 1 p.glock i && (secure || not (eqb i secBit))) (bit value i) (bit p.word i))
+    (λ i. cond (bit_if named 1 p.glock i && (secure || not (eqb i sec_bit))) (bit value i) (bit p.word i))
 
 -- as the row says: GLOCK is set by 1 and not cleared by 0, IACR's 1 clears; START clears the bits within a granule, END sets them
 unfoldable pub word_in : Form → ℕ → ℕ → Port → ℕ → Bool → ℕ
@@ -93,58 +93,58 @@ word_in Kept granule named p value secure = p.word
 word_in Taken granule named p value secure = merged 32 p.word value named
 word_in SetByOne granule named p value secure = word 32 (λ i. bit p.word i || bit named i && bit value i)
 word_in ClearedByOne granule named p value secure = word 32 (λ i. bit p.word i && not (bit named i && bit value i))
-word_in GranuleStart granule named p value secure = less 32 value (lowBits granule)
-word_in GranuleEnd granule named p value secure = united 32 value (lowBits granule)
-word_in SubregionCfgr granule named p value secure = subcfgrWritten named p value secure
+word_in GranuleStart granule named p value secure = less 32 value (low_bits granule)
+word_in GranuleEnd granule named p value secure = united 32 value (low_bits granule)
+word_in SubregionCfgr granule named p value secure = subcfgr_written named p value secure
 
-abbrev pub wordWritten : ℕ → Row → Port → ℕ → Bool → ℕ
-wordWritten granule row p value secure = word_in row.form granule row.named p value secure
+abbrev pub word_written : ℕ → Row → Port → ℕ → Bool → ℕ
+word_written granule row p value secure = word_in row.form granule row.named p value secure
 
 -- ---- the checks, in their order
 
-unfoldable pub checksOf : Shape → Row → Port → Request → Checks
-checksOf shape row p q =
+unfoldable pub checks_of : Shape → Row → Port → Request → Checks
+checks_of shape row p q =
     record {
       present = shape.there;
       aligned = eqb (q.offset % 4) 0;
       inside = true;
       fetchless = true;
       known = row.known;
-      allowed = allowedOf shape.bus row p q;
+      allowed = allowed_of shape.bus row p q;
       direction = cond q.write row.writable row.readable;
-      unlocked = not q.write || not (lockedOf row.lock p);
+      unlocked = not q.write || not (locked_of row.lock p);
     }
 
 unfoldable pub answer_of : Shape → Row → Port → Request → Answer
-answer_of shape row p q = answered (checksOf shape row p q) (gives q (read_of row p.word))
+answer_of shape row p q = answered (checks_of shape row p q) (gives q (read_of row p.word))
 
 -- ---- the answer to a read, among a guard's words: what code goes by
 
 -- of the register with this row, at an offset that is a multiple of 4
-unfoldable pub readReached : Row → ℕ → Request → Answer
-readReached row old q =
+unfoldable pub read_reached : Row → ℕ → Request → Answer
+read_reached row old q =
     unless row.known (Rejected NoRegister)
     (unless (not row.guarded || q.secure && q.privileged) (Refused 0)
     (unless row.readable (Rejected NoRegister) (Done (read_of row old))))
 
-unfoldable pub readAnswer : Shape → List ℕ → Request → Answer
-readAnswer shape w q =
-    let row = row_of (registerAt shape.regions q.offset) in
+unfoldable pub read_answer : Shape → List ℕ → Request → Answer
+read_answer shape w q =
+    let row = row_of (register_at shape.regions q.offset) in
     unless shape.there (Rejected NoSuch)
-    (unless (eqb (q.offset % 4) 0) (Rejected Misaligned) (readReached row (get_or w row.place 0) q))
+    (unless (eqb (q.offset % 4) 0) (Rejected Misaligned) (read_reached row (get_or w row.place 0) q))
 
 -- ---- what an access leaves
 
-abbrev pub withPortWord : Port → ℕ → Port
-withPortWord p v =
+abbrev pub with_port_word : Port → ℕ → Port
+with_port_word p v =
     record { glock = p.glock; iasr = p.iasr; base = p.base; sub = p.sub; nest = p.nest; word = v }
 
 -- a refused register access sets CAEF (0)
-abbrev pub refusedPort : Port → Port
-refusedPort p =
+abbrev pub refused_port : Port → Port
+refused_port p =
     record {
       glock = p.glock;
-      iasr = withBit 32 p.iasr 0 true;
+      iasr = with_bit 32 p.iasr 0 true;
       base = p.base;
       sub = p.sub;
       nest = p.nest;
@@ -154,9 +154,9 @@ refusedPort p =
 unfoldable pub accessed : Shape → Row → Port → Request → Accessed
 accessed shape row p q =
     let a = answer_of shape row p q in
-    let w = wordWritten shape.granule row p q.value q.secure in
+    let w = word_written shape.granule row p q.value q.secure in
     record {
-      next = left a p (cond q.write (withPortWord p w) p) (refusedPort p);
+      next = left a p (cond q.write (with_port_word p w) p) (refused_port p);
       answer = a;
     }
 
@@ -168,11 +168,11 @@ pub record Stepped : Type 0 where
 
 unfoldable pub stepped : Shape → Guard → Request → Stepped
 stepped shape g q =
-    let row = row_of (registerAt shape.regions q.offset) in
-    let r = accessed shape row (portIn (guardWords g) row) q in
+    let row = row_of (register_at shape.regions q.offset) in
+    let r = accessed shape row (port_in (guard_words g) row) q in
     record {
       next =
-          left r.answer g (cond q.write (withWord g row.place r.next.word) g)
-          (withWord g iasrAt r.next.iasr);
+          left r.answer g (cond q.write (with_word g row.place r.next.word) g)
+          (with_word g iasr_at r.next.iasr);
       answer = r.answer;
     }

@@ -1,5 +1,5 @@
 ghost use Rattle.std.specs.Prelude.{true, ◌≡◌};
-ghost use Rattle.risaf.specs.Guards.{lowBits, shape_of};
+ghost use Rattle.risaf.specs.Guards.{low_bits, shape_of};
 
 use access::{Bus, Flag};
 
@@ -28,7 +28,7 @@ pub const GUARD_NUMBERS: u32 = 24;
 
 // The bits of an offset within a granule. No guard has a granule of 0 bytes.
 pub(crate) fn low_bits(granule: u32) -> u32
-    ensures { result ≡ lowBits granule }
+    ensures { result ≡ low_bits granule }
 {
     if granule == 0 { 0 } else { granule - 1 }
 }

@@ -1,7 +1,7 @@
 ghost use Rattle.std.specs.Prelude.{cond, true, ◌≡◌, ◌%◌, eqb, ltb};
 ghost use Rattle.access.specs.declared.answer.Answer.TheVariants.{Done, Rejected};
 ghost use Rattle.access.specs.declared.answer.Why.TheVariants.{Outside};
-ghost use Rattle.risaf.specs.Memory.{isWidth, memoryChecked, recordedFault};
+ghost use Rattle.risaf.specs.Memory.{is_width, memory_checked, recorded_fault};
 
 use crate::Shape;
 use access::{Answer, DEBUGGER, Kind, Why};
@@ -30,14 +30,14 @@ const IAESR_NAMED: u32 = 0xb7;
 const WORD: u32 = 4;
 
 fn is_width(width: u32) -> bool
-    ensures { result ≡ isWidth width }
+    ensures { result ≡ is_width width }
 {
     (width == 1) | (width == 2) | (width == 4)
 }
 
 // Whether the offset is a multiple of a width that there is. Of another width nobody asks: it is refused first.
 fn aligned(o: u32, width: u32) -> bool
-    ensures { isWidth width ≡ true → result ≡ eqb (o % width) 0 }
+    ensures { is_width width ≡ true → result ≡ eqb (o % width) 0 }
 {
     match width {
         2 => o % 2 == 0,
@@ -59,7 +59,7 @@ fn placed(window: u64, o: u32) -> Answer
 // The answer to a memory access of a kind if the rules grant it: done, where they are to be asked. there says whether the guard, and the
 // master, are ones there are.
 pub fn memory_checked(there: bool, shape: Shape, o: u32, width: u32, k: Kind) -> Answer
-    ensures { result ≡ memoryChecked there shape o width k }
+    ensures { result ≡ memory_checked there shape o width k }
 {
     // Each test before the next is made: most accesses pass all.
     if !there {
@@ -90,7 +90,7 @@ pub fn memory_checked(there: bool, shape: Shape, o: u32, width: u32, k: Kind) ->
 impl Faults {
     // After a refused memory access: IAEF is set, and the first since it was 0 fills IAESR and IADDR.
     pub fn recorded(self, o: u32, k: Kind) -> Self
-        ensures { result ≡ recordedFault self o k }
+        ensures { result ≡ recorded_fault self o k }
     {
         let iasr = words::with_bit(self.iasr, IAEF, true);
         if (self.iasr >> IAEF) % 2 == 1 {

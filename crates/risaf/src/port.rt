@@ -3,15 +3,15 @@ ghost use Rattle.words.specs.Bit.{word};
 ghost use Rattle.risaf.specs.Port.{
   accessed,
   answer_of,
-  bitIf,
+  bit_if,
   delegated,
-  lockedOf,
-  portCid,
-  portIn,
-  readAnswer,
-  readReached,
-  subcfgrWritten,
-  wordWritten,
+  locked_of,
+  port_cid,
+  port_in,
+  read_answer,
+  read_reached,
+  subcfgr_written,
+  word_written,
 };
 
 use crate::contents::{CR, IASR};
@@ -60,7 +60,7 @@ fn word_in(w: &[u32], at: usize) -> u32
 
 // The compartment that the port always speaks as. AHB carries none.
 fn port_cid(bus: Bus) -> Cid
-    ensures { result ≡ portCid bus }
+    ensures { result ≡ port_cid bus }
 {
     match bus {
         Bus::Axi => Cid(1),
@@ -90,7 +90,7 @@ fn may_write(bus: Bus, row: Row, p: Port, q: Request) -> bool
 }
 
 fn locked(lock: Lock, p: Port) -> bool
-    ensures { result ≡ lockedOf lock p }
+    ensures { result ≡ locked_of lock p }
 {
     match lock {
         Lock::Glock => p.glock,
@@ -141,7 +141,7 @@ fn answer(shape: Shape, row: Row, p: Port, q: Request) -> Answer
 
 // The bits, but bit k only where it may be.
 fn with_bit_if(bits: u32, k: u32, may: bool) -> u32
-    ensures { result ≡ word 32 (bitIf bits k may) }
+    ensures { result ≡ word 32 (bit_if bits k may) }
 {
     if may {
         return bits;
@@ -151,7 +151,7 @@ fn with_bit_if(bits: u32, k: u32, may: bool) -> u32
 
 // A subregion's CFGR: RLOCK is taken only while GLOCK is 1, and SEC only of a secure write.
 fn sub_cfgr_written(named: u32, p: Port, value: u32, secure: bool) -> u32
-    ensures { result ≡ subcfgrWritten named p value secure }
+    ensures { result ≡ subcfgr_written named p value secure }
 {
     let mask = with_bit_if(with_bit_if(named, RLOCK, p.glock), SEC, secure);
     words::merge(p.word, value, mask)
@@ -159,7 +159,7 @@ fn sub_cfgr_written(named: u32, p: Port, value: u32, secure: bool) -> u32
 
 // The word that a write leaves.
 fn word_written(granule: u32, row: Row, p: Port, value: u32, secure: bool) -> u32
-    ensures { result ≡ wordWritten granule row p value secure }
+    ensures { result ≡ word_written granule row p value secure }
 {
     let form = row.form;
     match form {
@@ -176,7 +176,7 @@ fn word_written(granule: u32, row: Row, p: Port, value: u32, secure: bool) -> u3
 impl Row {
     // The answer to a read of the register with this row among a guard's words, at an offset that is a multiple of 4.
     fn read(self, w: &[u32], q: Request) -> Answer
-        ensures { result ≡ readReached self (get_or w.now self.place 0) q }
+        ensures { result ≡ read_reached self (get_or w.now self.place 0) q }
     {
         if !self.known {
             return Answer::Rejected(Why::NoRegister);
@@ -194,7 +194,7 @@ impl Row {
 // The answer to a read, among the words of a guard of this shape. Each kind of register goes by rows of its own, which are a part of
 // the table.
 pub fn read(w: &[u32], shape: Shape, q: Request) -> Answer
-    ensures { result ≡ readAnswer shape w.now q }
+    ensures { result ≡ read_answer shape w.now q }
 {
     if !shape.there {
         return Answer::Rejected(Why::NoSuch);
@@ -214,7 +214,7 @@ pub fn read(w: &[u32], shape: Shape, q: Request) -> Answer
 impl Port {
     // Among a guard's words, for an access to the register with this row.
     pub fn at(w: &[u32], row: Row) -> Self
-        ensures { result ≡ portIn w.now row }
+        ensures { result ≡ port_in w.now row }
     {
         Port {
             glock: words::bit_of(word_in(w, CR), 0),

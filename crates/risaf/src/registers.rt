@@ -1,5 +1,5 @@
 ghost use Rattle.std.specs.Prelude.{cond, ◌≡◌};
-ghost use Rattle.risaf.specs.Registers.{regionAt, regionRegister, registerAt, subRegister};
+ghost use Rattle.risaf.specs.Registers.{region_at, region_register, register_at, sub_register};
 
 use regions::places::MOST_REGIONS;
 
@@ -44,7 +44,7 @@ const BLOCK: u32 = 0x40;
 
 // The base region, from 0, whose block an offset lies in; as many as there can be, where it lies in none.
 fn region_at(offset: u32) -> usize
-    ensures { result ≡ regionAt offset }
+    ensures { result ≡ region_at offset }
 {
     match offset {
         0x040..=0x2ff => ((offset - 0x040) / BLOCK) as usize,
@@ -54,7 +54,7 @@ fn region_at(offset: u32) -> usize
 
 // The register at offset k of the part of subregion s of base region x.
 fn sub_register(x: usize, s: usize, k: u32) -> Register
-    ensures { result ≡ subRegister x s k }
+    ensures { result ≡ sub_register x s k }
 {
     match k {
         0x0 => Register::OfSub(x, s, SubField::SubCfgr),
@@ -67,7 +67,7 @@ fn sub_register(x: usize, s: usize, k: u32) -> Register
 
 // The register at offset k of the block of base region x.
 fn region_register(x: usize, k: u32) -> Register
-    ensures { result ≡ regionRegister x k }
+    ensures { result ≡ region_register x k }
 {
     match k {
         0x0 => Register::OfBase(x, BaseField::Cfgr),
@@ -82,7 +82,7 @@ fn region_register(x: usize, k: u32) -> Register
 
 // The register at an offset that is a multiple of 4, of a guard with n base regions.
 pub(crate) fn register_at(n: usize, offset: u32) -> Register
-    ensures { result ≡ registerAt n offset }
+    ensures { result ≡ register_at n offset }
 {
     match offset {
         0x000 => Register::OfHead(Head::Cr),

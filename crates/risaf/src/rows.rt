@@ -1,7 +1,7 @@
 ghost use Rattle.std.specs.Prelude.{◌≡◌, ◌+◌, ◌<◌, ◌≤◌};
-ghost use Rattle.regions.specs.Words.{baseWords, mostRegions};
-ghost use Rattle.risaf.specs.Registers.{registerAt};
-ghost use Rattle.risaf.specs.Rows.{Placed, baseRow, headRow, ofBase, ofHead, ofSub, row_of, subRow};
+ghost use Rattle.regions.specs.Words.{base_words, most_regions};
+ghost use Rattle.risaf.specs.Registers.{register_at};
+ghost use Rattle.risaf.specs.Rows.{Placed, base_row, head_row, of_base, of_head, of_sub, row_of, sub_row};
 
 use crate::contents::{CR, HEAD_WORDS, IADDR, IAESR, IASR};
 use crate::registers::{BaseField, Head, Register, SubField, register_at};
@@ -61,7 +61,7 @@ fn head_row(
     named: u32,
     place: usize,
 ) -> Row
-    ensures { result ≡ headRow readable writable guarded lock form named place }
+    ensures { result ≡ head_row readable writable guarded lock form named place }
 {
     Row {
         known: true,
@@ -80,8 +80,8 @@ fn head_row(
 }
 
 fn base_row(x: usize, form: Form, named: u32, field: usize) -> Row
-    requires { (x < mostRegions) × (field < baseWords) }
-    ensures { result ≡ baseRow x form named field }
+    requires { (x < most_regions) × (field < base_words) }
+    ensures { result ≡ base_row x form named field }
 {
     let base = HEAD_WORDS + REGION_WORDS * x;
     Row {
@@ -109,8 +109,8 @@ fn sub_row(
     named: u32,
     field: usize,
 ) -> Row
-    requires { (x < mostRegions) × (s < 2) × (field < baseWords) }
-    ensures { result ≡ subRow x s delegable lock form named field }
+    requires { (x < most_regions) × (s < 2) × (field < base_words) }
+    ensures { result ≡ sub_row x s delegable lock form named field }
 {
     let base = HEAD_WORDS + REGION_WORDS * x;
     let sub = HEAD_WORDS + (REGION_WORDS * x + BASE_WORDS + SUBREGION_WORDS * s);
@@ -133,7 +133,7 @@ fn sub_row(
 impl Head {
     // Columns: readable, writable, guarded, lock, form, named bits, place.
     pub(crate) fn row(self) -> Row
-        ensures { result ≡ ofHead self }
+        ensures { result ≡ of_head self }
     {
         match self {
             Head::Cr => head_row(true, true, false, Lock::Glock, Form::SetByOne, 0x1, CR),
@@ -156,8 +156,8 @@ impl Head {
 impl BaseField {
     // Columns: form, named bits, which of the base region's words.
     pub(crate) fn row(self, x: usize) -> Row
-        requires { x < mostRegions }
-        ensures { result ≡ ofBase x self }
+        requires { x < most_regions }
+        ensures { result ≡ of_base x self }
     {
         match self {
             BaseField::Cfgr => base_row(x, Form::Taken, 0x00ff_0101, 0),
@@ -171,8 +171,8 @@ impl BaseField {
 impl SubField {
     // Columns: delegable, lock, form, named bits, which of the subregion's words.
     pub(crate) fn row(self, x: usize, s: usize) -> Row
-        requires { (x < mostRegions) × (s < 2) }
-        ensures { result ≡ ofSub x s self }
+        requires { (x < most_regions) × (s < 2) }
+        ensures { result ≡ of_sub x s self }
     {
         match self {
             SubField::SubCfgr => sub_row(x, s, true, Lock::Rlock, Form::SubregionCfgr, 0x3373, 0),
@@ -211,7 +211,7 @@ fn row_of(reg: Register) -> Row
 
 // The row of the register at an offset that is a multiple of 4, of a guard with n base regions.
 pub fn row_at(n: usize, offset: u32) -> Row
-    ensures { result ≡ row_of (registerAt n offset) }
+    ensures { result ≡ row_of (register_at n offset) }
 {
     row_of(register_at(n, offset))
 }

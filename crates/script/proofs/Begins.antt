@@ -10,12 +10,12 @@ use lib.Dec.{eqb}
 use lib.ListN.{length, get_or, take, drop, length-drop}
 use lib.Seq.{get_or-drop, get_or-take, length-take-le, take_all}
 use Rattle.script.specs.Fields.{same}
-use Rattle.script.specs.Places.{beginsAt, fourAt}
+use Rattle.script.specs.Places.{begins_at, four_at}
 use Rattle.script.proofs.Told.{both_true}
 use Rattle.script.proofs.Same.{same-unequal, same_step, same_end}
 
 module _ (line : List ℕ) (p : ℕ) (word : List ℕ) where
-  pub begins-short : 0 < length word → length line < p + length word → false ≡ beginsAt line p word
+  pub begins-short : 0 < length word → length line < p + length word → false ≡ begins_at line p word
   begins-short some h =
       let l : length (drop p line) < length word = omega (arith, some, length-drop p line) in
       let e = take_all (length word) (drop p line) (omega (arith, l)) in
@@ -50,7 +50,7 @@ module _ (line : List ℕ) (p : ℕ) (word : List ℕ) where
       first : left 0 ≡ (eqb (get_or line p 0) (get_or word 0 0) && left 1)
       first = next 0 (omega (arith, four)) ∙ ap (λ (i : ℕ). eqb (get_or line i 0) (get_or word 0 0) && left 1) (add-zero p)
 
-      pub begins-four : ((i : ℕ) → get_or line i 0 < 256) → ((i : ℕ) → get_or word i 0 < 256) → fourAt line p ≡ fourAt word 0 → left 4 ≡ left 0
+      pub begins-four : ((i : ℕ) → get_or line i 0 < 256) → ((i : ℕ) → get_or word i 0 < 256) → four_at line p ≡ four_at word 0 → left 4 ≡ left 0
       begins-four bytes known e =
           let a0 : get_or line p 0 ≡ get_or word 0 0 = omega (arith, e, bytes p, bytes (p + 1), bytes (p + 2), bytes (p + 3), known 0, known 1, known 2, known 3) in
           let a1 : get_or line (p + 1) 0 ≡ get_or word 1 0 = omega (arith, e, a0, bytes (p + 1), bytes (p + 2), bytes (p + 3), known 1, known 2, known 3) in
@@ -59,7 +59,7 @@ module _ (line : List ℕ) (p : ℕ) (word : List ℕ) where
           begins-step 3 (omega (arith, four)) a3 ∙ begins-step 2 (omega (arith, four)) a2 ∙ begins-step 1 (omega (arith, four)) a1
           ∙ sym (first ∙ rw (eq-eqb (get_or line p 0) (get_or word 0 0) a0))
 
-      pub begins-other : (fourAt line p ≡ fourAt word 0 → ⊥) → false ≡ left 0
+      pub begins-other : (four_at line p ≡ four_at word 0 → ⊥) → false ≡ left 0
       begins-other k = go (left 0) refl
         where
           go : (t : Bool) → left 0 ≡ t → false ≡ left 0

@@ -9,66 +9,66 @@ use lib.Dec.{eqb}
 use lib.ListN.{length, take, drop, length-drop}
 use lib.Seq.{length-take-le}
 use Rattle.script.specs.Fields.{tab, same}
-use Rattle.script.specs.Numbers.{isHex, every, hexOf, either_of, operationOf}
-use Rattle.script.specs.Places.{fieldFrom, ends_at}
+use Rattle.script.specs.Numbers.{is_hex, every, hex_of, either_of, operation_of}
+use Rattle.script.specs.Places.{field_from, ends_at}
 use Rattle.script.specs.declared.numbers.Number.TheVariants.{NoNumber}
 use Rattle.script.specs.declared.numbers.Choice.TheVariants.{Neither}
 use Rattle.script.specs.declared.numbers.Action.TheVariants.{NoAction}
-use Rattle.script.proofs.Places.{Field, field, field-bytes, field_of, noTabs, some-there}
+use Rattle.script.proofs.Places.{Field, field, field-bytes, field_of, no_tabs, some-there}
 use Rattle.script.proofs.Same.{no-letter}
 
 pub record Fixed {R : Type 0} (n : ℕ) (read : List ℕ → R) (bad : R) : Type 0 where
   pub some : 0 < n
   pub long : (s : List ℕ) → (length s ≡ n → ⊥) → read s ≡ bad
-  pub tabs : (s : List ℕ) → noTabs s ≡ false → read s ≡ bad
+  pub tabs : (s : List ℕ) → no_tabs s ≡ false → read s ≡ bad
 
 module _ {R : Type 0} {n : ℕ} {read : List ℕ → R} {bad : R} (fixed : Fixed n read bad) (line : List ℕ) (p : ℕ) where
   -- a field of n bytes is the n bytes there
-  sized : length (fieldFrom line p) ≡ n → Field line p n
+  sized : length (field_from line p) ≡ n → Field line p n
   sized e = rw e at (field line p (some-there line p (omega (arith, fixed.some))))
 
-  pub read-there : ends_at line (p + n) ≡ true → read (take n (drop p line)) ≡ read (fieldFrom line p)
-  read-there h = go (eqb (length (fieldFrom line p)) n) refl
+  pub read-there : ends_at line (p + n) ≡ true → read (take n (drop p line)) ≡ read (field_from line p)
+  read-there h = go (eqb (length (field_from line p)) n) refl
     where
-      bytes : noTabs (take n (drop p line)) ≡ true → length (fieldFrom line p) ≡ n
+      bytes : no_tabs (take n (drop p line)) ≡ true → length (field_from line p) ≡ n
       bytes t =
           let f = field_of n line p h t in
           ap length (field-bytes line p n f) ∙ length-take-le n (drop p line) (omega (arith, length-drop p line, f.within))
 
-      plain : (t : Bool) → noTabs (take n (drop p line)) ≡ t → (length (fieldFrom line p) ≡ n → ⊥) → read (take n (drop p line)) ≡ bad
+      plain : (t : Bool) → no_tabs (take n (drop p line)) ≡ t → (length (field_from line p) ≡ n → ⊥) → read (take n (drop p line)) ≡ bad
       plain true e k = absurd (k (bytes e))
       plain false e k = fixed.tabs (take n (drop p line)) e
 
-      go : (t : Bool) → eqb (length (fieldFrom line p)) n ≡ t → read (take n (drop p line)) ≡ read (fieldFrom line p)
-      go true e = ap read (sym (field-bytes line p n (sized (eqb-true (length (fieldFrom line p)) n e))))
+      go : (t : Bool) → eqb (length (field_from line p)) n ≡ t → read (take n (drop p line)) ≡ read (field_from line p)
+      go true e = ap read (sym (field-bytes line p n (sized (eqb-true (length (field_from line p)) n e))))
       go false e =
-          let k = eqb-false (length (fieldFrom line p)) n e in
-          plain (noTabs (take n (drop p line))) refl k ∙ sym (fixed.long (fieldFrom line p) k)
+          let k = eqb-false (length (field_from line p)) n e in
+          plain (no_tabs (take n (drop p line))) refl k ∙ sym (fixed.long (field_from line p) k)
 
-  pub not_there : ends_at line (p + n) ≡ false → bad ≡ read (fieldFrom line p)
-  not_there h = sym (fixed.long (fieldFrom line p) λ e. true≢false (sym (sized e).ends ∙ h))
+  pub not_there : ends_at line (p + n) ≡ false → bad ≡ read (field_from line p)
+  not_there h = sym (fixed.long (field_from line p) λ e. true≢false (sym (sized e).ends ∙ h))
 
-  pub its-length : (read (fieldFrom line p) ≡ bad → ⊥) → length (fieldFrom line p) ≡ n
-  its-length k = go (eqb (length (fieldFrom line p)) n) refl
+  pub its-length : (read (field_from line p) ≡ bad → ⊥) → length (field_from line p) ≡ n
+  its-length k = go (eqb (length (field_from line p)) n) refl
     where
-      go : (t : Bool) → eqb (length (fieldFrom line p)) n ≡ t → length (fieldFrom line p) ≡ n
-      go true e = eqb-true (length (fieldFrom line p)) n e
-      go false e = absurd (k (fixed.long (fieldFrom line p) (eqb-false (length (fieldFrom line p)) n e)))
+      go : (t : Bool) → eqb (length (field_from line p)) n ≡ t → length (field_from line p) ≡ n
+      go true e = eqb-true (length (field_from line p)) n e
+      go false e = absurd (k (fixed.long (field_from line p) (eqb-false (length (field_from line p)) n e)))
 
 -- ---- the readers
 
-hex-tabs : (s : List ℕ) → noTabs s ≡ false → every isHex s ≡ false
+hex-tabs : (s : List ℕ) → no_tabs s ≡ false → every is_hex s ≡ false
 unfolding every
 hex-tabs [] h = absurd (true≢false h)
 hex-tabs (b ∷ s) h = go (eqb b tab) refl (hex-tabs s) h
   where
-    go : (t : Bool) → eqb b tab ≡ t → (noTabs s ≡ false → every isHex s ≡ false) → (not t && noTabs s) ≡ false
-        → (isHex b && every isHex s) ≡ false
+    go : (t : Bool) → eqb b tab ≡ t → (no_tabs s ≡ false → every is_hex s ≡ false) → (not t && no_tabs s) ≡ false
+        → (is_hex b && every is_hex s) ≡ false
     go true e f k = rw (eqb-true b tab e)
-    go false e f k = rw (f k) (and-false (isHex b))
+    go false e f k = rw (f k) (and-false (is_hex b))
 
-pub hex-fixed : Fixed 8 hexOf NoNumber
-unfolding hexOf
+pub hex-fixed : Fixed 8 hex_of NoNumber
+unfolding hex_of
 hex-fixed =
     record {
       some = omega arith;
@@ -77,7 +77,7 @@ hex-fixed =
     }
 
 -- a letter that is no tab
-letter-tabs : (s : List ℕ) (b : ℕ) → tab < b → noTabs s ≡ false → same s (b ∷ []) ≡ false
+letter-tabs : (s : List ℕ) (b : ℕ) → tab < b → no_tabs s ≡ false → same s (b ∷ []) ≡ false
 unfolding every same
 letter-tabs [] b l h = absurd (true≢false h)
 letter-tabs (a ∷ []) b l h = go (eqb a tab) refl h
@@ -96,8 +96,8 @@ either-fixed this that l m =
       tabs = λ s h. rw (letter-tabs s this l h, letter-tabs s that m h);
     }
 
-pub operation-fixed : Fixed 1 operationOf NoAction
-unfolding operationOf
+pub operation-fixed : Fixed 1 operation_of NoAction
+unfolding operation_of
 operation-fixed =
     record {
       some = omega arith;

@@ -11,10 +11,10 @@ use lib.Dec.{eqb, ltb, lit<}
 use lib.ListN.{length, get_or, take, drop}
 use lib.Seq.{drop-cons}
 use Rattle.access.specs.Fold.{all}
-use Rattle.script.specs.Numbers.{isHex, digit, every, valueFrom, hexOf}
-use Rattle.script.specs.Places.{fourAt}
+use Rattle.script.specs.Numbers.{is_hex, digit, every, value_from, hex_of}
+use Rattle.script.specs.Places.{four_at}
 use Rattle.script.specs.declared.numbers.Number.TheVariants.{Value, NoNumber}
-use Rattle.script.proofs.Gathered.{lowerBytes, lowerPairs, gathered}
+use Rattle.script.proofs.Gathered.{lower_bytes, lower_pairs, gathered}
 use Rattle.script.proofs.Told.{both_true}
 use Rattle.script.proofs.Packed.{packed, Bytes, packed-same, packed-and, packed-add, packed-mul, packed-eqb}
 
@@ -64,14 +64,14 @@ all_true (suc n) p h x l =
 
 -- each is a test that all bytes pass
 module _ (b : ℕ) (h : b < 256) where
-  hex-byte : isHex b ≡ (low b && good b)
-  hex-byte = beq-true (isHex b) (low b && good b) (all_true 256 (λ b. beq (isHex b) (low b && good b)) refl b h)
+  hex-byte : is_hex b ≡ (low b && good b)
+  hex-byte = beq-true (is_hex b) (low b && good b) (all_true 256 (λ b. beq (is_hex b) (low b && good b)) refl b h)
 
-  pub digit-byte : isHex b ≡ true → (value b ≡ digit b) × (digit b < 16)
+  pub digit-byte : is_hex b ≡ true → (value b ≡ digit b) × (digit b < 16)
   digit-byte e =
       let d = both_true (eqb (value b) (digit b)) (ltb (digit b) 16)
-      (so-true (isHex b) (eqb (value b) (digit b) && ltb (digit b) 16)
-      (all_true 256 (λ b. not (isHex b) || eqb (value b) (digit b) && ltb (digit b) 16) refl b h) e) in
+      (so-true (is_hex b) (eqb (value b) (digit b) && ltb (digit b) 16)
+      (all_true 256 (λ b. not (is_hex b) || eqb (value b) (digit b) && ltb (digit b) 16) refl b h) e) in
       (eqb-true (value b) (digit b) d.0, ltb-true (digit b) 16 d.1)
 
   letter-byte : bit_and b 64 ≡ 64 * letter b
@@ -135,7 +135,7 @@ and-swap true false true d = refl
 and-swap true false false d = refl
 and-swap false b c d = refl
 
-every-hex : (bs : List ℕ) → Bytes bs → every isHex bs ≡ (every low bs && every good bs)
+every-hex : (bs : List ℕ) → Bytes bs → every is_hex bs ≡ (every low bs && every good bs)
 unfolding every
 every-hex [] h = refl
 every-hex (b ∷ bs) h = rw (hex-byte b h.0, every-hex bs h.1) (and-swap (low b) (good b) (every low bs) (every good bs))
@@ -147,62 +147,62 @@ abbrev pub each : ℕ
 each = 0x0101_0101_0101_0101
 
 -- what the code makes of the eight bytes
-abbrev pub digitsIn : ℕ → ℕ
-digitsIn text = bit_and text (15 * each) + 9 * (bit_and text (64 * each) / 2 ^ 6)
+abbrev pub digits_in : ℕ → ℕ
+digits_in text = bit_and text (15 * each) + 9 * (bit_and text (64 * each) / 2 ^ 6)
 
-abbrev pub shownIn : ℕ → ℕ
-shownIn digits = digits + 48 * each + 39 * (bit_and (digits + 6 * each) (16 * each) / 2 ^ 4)
+abbrev pub shown_in : ℕ → ℕ
+shown_in digits = digits + 48 * each + 39 * (bit_and (digits + 6 * each) (16 * each) / 2 ^ 4)
 
 -- both fit
-pub digits-most : (text : ℕ) → digitsIn text ≤ 24 * each
+pub digits-most : (text : ℕ) → digits_in text ≤ 24 * each
 digits-most text = omega (arith, and_le_r text (15 * each), and_le_r text (64 * each))
 
-pub shown-most : (text : ℕ) → 39 * (bit_and (digitsIn text + 6 * each) (16 * each) / 2 ^ 4) ≤ 39 * each
-shown-most text = omega (arith, and_le_r (digitsIn text + 6 * each) (16 * each))
+pub shown-most : (text : ℕ) → 39 * (bit_and (digits_in text + 6 * each) (16 * each) / 2 ^ 4) ≤ 39 * each
+shown-most text = omega (arith, and_le_r (digits_in text + 6 * each) (16 * each))
 
 module _ (a b c d e f g h : ℕ) (bytes : Bytes (a ∷ b ∷ c ∷ d ∷ e ∷ f ∷ g ∷ h ∷ []))
     (text : ℕ) (is : text ≡ packed (λ b. b) 0 (a ∷ b ∷ c ∷ d ∷ e ∷ f ∷ g ∷ h ∷ [])) where
   abbrev bs : List ℕ
   bs = a ∷ b ∷ c ∷ d ∷ e ∷ f ∷ g ∷ h ∷ []
 
-  digits_are : digitsIn text ≡ packed value 0 bs
-  digits_are = ap digitsIn is ∙ ap (λ (x : ℕ). bit_and (packed (λ b. b) 0 bs) (15 * each) + 9 * x) (letters-are bs bytes) ∙ values-are bs bytes
+  digits_are : digits_in text ≡ packed value 0 bs
+  digits_are = ap digits_in is ∙ ap (λ (x : ℕ). bit_and (packed (λ b. b) 0 bs) (15 * each) + 9 * x) (letters-are bs bytes) ∙ values-are bs bytes
 
-  low-test : eqb (bit_and (digitsIn text) (240 * each)) 0 ≡ every low bs
+  low-test : eqb (bit_and (digits_in text) (240 * each)) 0 ≡ every low bs
   low-test = ap (λ (x : ℕ). eqb (bit_and x (240 * each)) 0) digits_are ∙ low-are bs bytes
 
-  good-test : eqb (shownIn (digitsIn text)) text ≡ every good bs
+  good-test : eqb (shown_in (digits_in text)) text ≡ every good bs
   good-test =
-      ap₂ (λ (x y : ℕ). eqb (shownIn x) y) digits_are is
+      ap₂ (λ (x y : ℕ). eqb (shown_in x) y) digits_are is
       ∙ ap (λ (x : ℕ). eqb x (packed (λ b. b) 0 bs))
       (ap (λ (x : ℕ). packed value 0 bs + 48 * each + 39 * x) (tens-are bs bytes) ∙ shown-are bs bytes)
       ∙ good-are bs bytes
 
-  pub hex-not-low : (bit_and (digitsIn text) (240 * each) ≡ 0 → ⊥) → NoNumber ≡ hexOf bs
-  unfolding hexOf
-  hex-not-low k = rw (every-hex bs bytes, sym low-test, ne_eqb (bit_and (digitsIn text) (240 * each)) 0 k)
+  pub hex-not-low : (bit_and (digits_in text) (240 * each) ≡ 0 → ⊥) → NoNumber ≡ hex_of bs
+  unfolding hex_of
+  hex-not-low k = rw (every-hex bs bytes, sym low-test, ne_eqb (bit_and (digits_in text) (240 * each)) 0 k)
 
-  pub hex-not-good : (shownIn (digitsIn text) ≡ text → ⊥) → NoNumber ≡ hexOf bs
-  unfolding hexOf
-  hex-not-good k = rw (every-hex bs bytes, sym good-test, ne_eqb (shownIn (digitsIn text)) text k, and-false (every low bs))
+  pub hex-not-good : (shown_in (digits_in text) ≡ text → ⊥) → NoNumber ≡ hex_of bs
+  unfolding hex_of
+  hex-not-good k = rw (every-hex bs bytes, sym good-test, ne_eqb (shown_in (digits_in text)) text k, and-false (every low bs))
 
-  pub hex-good : bit_and (digitsIn text) (240 * each) ≡ 0 → shownIn (digitsIn text) ≡ text → every isHex bs ≡ true
+  pub hex-good : bit_and (digits_in text) (240 * each) ≡ 0 → shown_in (digits_in text) ≡ text → every is_hex bs ≡ true
   hex-good k l =
       every-hex bs bytes
-      ∙ ap₂ ◌&&◌ (sym low-test ∙ eq-eqb (bit_and (digitsIn text) (240 * each)) 0 k) (sym good-test ∙ eq-eqb (shownIn (digitsIn text)) text l)
+      ∙ ap₂ ◌&&◌ (sym low-test ∙ eq-eqb (bit_and (digits_in text) (240 * each)) 0 k) (sym good-test ∙ eq-eqb (shown_in (digits_in text)) text l)
 
-  pub hex-value : every isHex bs ≡ true → (pairs fours : ℕ) → pairs ≡ bit_and (digitsIn text + digitsIn text / 2 ^ 4) lowerBytes
-      → fours ≡ bit_and (pairs + pairs / 2 ^ 8) lowerPairs → Value ((fours + fours / 2 ^ 16) % 4294967296) ≡ hexOf bs
-  unfolding hexOf every valueFrom
+  pub hex-value : every is_hex bs ≡ true → (pairs fours : ℕ) → pairs ≡ bit_and (digits_in text + digits_in text / 2 ^ 4) lower_bytes
+      → fours ≡ bit_and (pairs + pairs / 2 ^ 8) lower_pairs → Value ((fours + fours / 2 ^ 16) % 4294967296) ≡ hex_of bs
+  unfolding hex_of every value_from
   hex-value k pairs fours ep ef =
-      let k0 = both_true (isHex a) _ k in
-      let k1 = both_true (isHex b) _ k0.1 in
-      let k2 = both_true (isHex c) _ k1.1 in
-      let k3 = both_true (isHex d) _ k2.1 in
-      let k4 = both_true (isHex e) _ k3.1 in
-      let k5 = both_true (isHex f) _ k4.1 in
-      let k6 = both_true (isHex g) _ k5.1 in
-      let k7 = both_true (isHex h) _ k6.1 in
+      let k0 = both_true (is_hex a) _ k in
+      let k1 = both_true (is_hex b) _ k0.1 in
+      let k2 = both_true (is_hex c) _ k1.1 in
+      let k3 = both_true (is_hex d) _ k2.1 in
+      let k4 = both_true (is_hex e) _ k3.1 in
+      let k5 = both_true (is_hex f) _ k4.1 in
+      let k6 = both_true (is_hex g) _ k5.1 in
+      let k7 = both_true (is_hex h) _ k6.1 in
       let d0 = digit-byte a bytes.0 k0.0 in
       let d1 = digit-byte b bytes.1.0 k1.0 in
       let d2 = digit-byte c bytes.1.1.0 k2.0 in
@@ -213,7 +213,7 @@ module _ (a b c d e f g h : ℕ) (bytes : Bytes (a ∷ b ∷ c ∷ d ∷ e ∷ f
       let d7 = digit-byte h bytes.1.1.1.1.1.1.1.0 k7.0 in
       ap Value
       (gathered (digit a) (digit b) (digit c) (digit d) (digit e) (digit f) (digit g) (digit h) d0.1 d1.1 d2.1 d3.1 d4.1 d5.1 d6.1 d7.1
-      (digitsIn text) (digits_are ∙ rw (d0.0, d1.0, d2.0, d3.0, d4.0, d5.0, d6.0, d7.0) (omega arith)) pairs fours ep ef)
+      (digits_in text) (digits_are ∙ rw (d0.0, d1.0, d2.0, d3.0, d4.0, d5.0, d6.0, d7.0) (omega arith)) pairs fours ep ef)
       ∙ rw k
 
 -- ---- bytes of a line
@@ -235,7 +235,7 @@ pub bytes-known : (k : ℕ) (line : List ℕ) (p : ℕ) → ((i : ℕ) → get_o
 bytes-known zero line p h = tt
 bytes-known (suc k) line p h = (h p, bytes-known k line (suc p) h)
 
-pub eight-packed : (line : List ℕ) (p a b : ℕ) → a ≡ fourAt line p → b ≡ fourAt line (p + 4)
+pub eight-packed : (line : List ℕ) (p a b : ℕ) → a ≡ four_at line p → b ≡ four_at line (p + 4)
     → 4294967296 * a + b ≡ packed (λ b. b) 0 (bytes_at line p 8)
 eight-packed line p a b e f =
     let g1 : get_or line (p + 1) 0 ≡ get_or line (suc p) 0 = ap (byte line) {y = suc p} (omega arith) in

@@ -12,13 +12,13 @@ use lib.Seq.{get_or-drop, get_or-take, take_all, take-suc, take-take, take-appen
 use Rattle.device.specs.declared.event.Event.TheVariants.{Reset}
 use Rattle.device.specs.declared.event.Block.TheVariants.{Rifsc, Iac, Risaf}
 use Rattle.print.specs.Bytes.{bytes}
-use Rattle.script.specs.Command.{numberOr, byKeyword, commandIn, lines_of, resetLine, blocksOf, requestFields, registerLine, peripheralLine, memoryLine, masterLine, mapLine}
+use Rattle.script.specs.Command.{number_or, by_keyword, command_in, lines_of, reset_line, blocks_of, request_fields, register_line, peripheral_line, memory_line, master_line, map_line}
 use Rattle.script.specs.Fields.{tab, field_at, fields_of, onto, same}
-use Rattle.script.specs.Numbers.{every, decimalOf}
-use Rattle.script.specs.Places.{rest_at, fieldFrom, endFrom, ends_at, beginsAt, Starts}
+use Rattle.script.specs.Numbers.{every, decimal_of}
+use Rattle.script.specs.Places.{rest_at, field_from, end_from, ends_at, begins_at, Starts}
 use Rattle.script.specs.declared.command.Command.{Command}
 use Rattle.script.specs.declared.command.Command.TheVariants.{Event, Bad}
-use Rattle.script.proofs.Places.{Field, field, field-bytes, field_of, noTabs, some-there, starts-begin, starts-field, starts-next, its-count, other-count}
+use Rattle.script.proofs.Places.{Field, field, field-bytes, field_of, no_tabs, some-there, starts-begin, starts-field, starts-next, its-count, other-count}
 use Rattle.script.proofs.Readings.{request-there}
 use Rattle.script.proofs.Told.{both_true}
 
@@ -51,7 +51,7 @@ module _ (line : List ℕ) (p : ℕ) (word : List ℕ) where
   abbrev tabbed : List ℕ
   tabbed = word ++ (tab ∷ [])
 
-  module _ (h : beginsAt line p tabbed ≡ true) where
+  module _ (h : begins_at line p tabbed ≡ true) where
     there : take (suc (length word)) (drop p line) ≡ tabbed
     there = rw (long-by word tab) at (same-is (take (length tabbed) (drop p line)) tabbed h)
 
@@ -71,36 +71,36 @@ module _ (line : List ℕ) (p : ℕ) (word : List ℕ) where
         ∙ ap (λ (s : List ℕ). get_or s (length word) 0) there ∙ last_byte word tab in
         rw (lt-ltb (p + length word) (length line) within) (eq-eqb (get_or line (p + length word) 0) tab e)
 
-    word-there : noTabs word ≡ true → fieldFrom line p ≡ word
+    word-there : no_tabs word ≡ true → field_from line p ≡ word
     word-there t =
         let e : take (length word) (drop p line) ≡ word =
         sym (take-take (length word) (suc (length word)) (drop p line) (omega arith)) ∙ ap (take (length word)) there
         ∙ take-append_seam word (tab ∷ []) in
         field-bytes line p (length word) (field_of (length word) line p ends_there (rw e t)) ∙ e
 
-    module _ {fs : List (List ℕ)} {k : ℕ} (s : Starts line fs k p) (plain : noTabs word ≡ true) where
+    module _ {fs : List (List ℕ)} {k : ℕ} (s : Starts line fs k p) (plain : no_tabs word ≡ true) where
       pub word-field : field_at fs k ≡ word
       word-field = sym (starts-field s) ∙ word-there plain
 
       pub word_next : Starts line fs (suc k) (suc (p + length word))
       word_next =
-          let e : endFrom line p ≡ p + length word = ap (λ (w : List ℕ). p + length w) (word-there plain) in
+          let e : end_from line p ≡ p + length word = ap (λ (w : List ℕ). p + length w) (word-there plain) in
           rw e at (starts-next s (omega (arith, within)))
 
   -- where the word and the tab are not, the field is another, or the line's last
-  pub word-not : {fs : List (List ℕ)} {k : ℕ} → Starts line fs k p → 0 < length word → beginsAt line p tabbed ≡ false
+  pub word-not : {fs : List (List ℕ)} {k : ℕ} → Starts line fs k p → 0 < length word → begins_at line p tabbed ≡ false
       → (same (field_at fs k) word ≡ false) ⊎ (length fs ≡ suc k)
   word-not {fs = fs} {k = k} s some h = go (same (field_at fs k) word) refl
     where
-      ended : fieldFrom line p ≡ word → length fs ≡ suc k
+      ended : field_from line p ≡ word → length fs ≡ suc k
       ended e =
           let l : p ≤ length line = some-there line p (omega (arith, some, ap length e)) in
           let f = field line p l in
-          let n : endFrom line p ≡ p + length word = ap (λ (w : List ℕ). p + length w) e in
+          let n : end_from line p ≡ p + length word = ap (λ (w : List ℕ). p + length w) e in
           let g : Field line p (length word) = rw (ap length e) at f in
           last (ltb (p + length word) (length line)) refl l n g
         where
-          last : (t : Bool) → ltb (p + length word) (length line) ≡ t → p ≤ length line → endFrom line p ≡ p + length word
+          last : (t : Bool) → ltb (p + length word) (length line) ≡ t → p ≤ length line → end_from line p ≡ p + length word
               → Field line p (length word) → length fs ≡ suc k
           last true q l n g =
               let m = ltb-true (p + length word) (length line) q in
@@ -121,18 +121,18 @@ module _ (line : List ℕ) (p : ℕ) (word : List ℕ) where
 -- ---- lines and blocks by their keyword
 
 -- a keyword that is not there, or whose line is bad
-past : (f word : List ℕ) (c : Command) (ls : List (List ℕ × Command)) → (same f word ≡ false) ⊎ (c ≡ Bad) → byKeyword f ls ≡ Bad
-    → byKeyword f ((word, c) ∷ ls) ≡ Bad
-unfolding byKeyword
+past : (f word : List ℕ) (c : Command) (ls : List (List ℕ × Command)) → (same f word ≡ false) ⊎ (c ≡ Bad) → by_keyword f ls ≡ Bad
+    → by_keyword f ((word, c) ∷ ls) ≡ Bad
+unfolding by_keyword
 past f word c ls (inl e) q = rw e q
 past f word c ls (inr e) q = go (same f word)
   where
-    go : (t : Bool) → cond t c (byKeyword f ls) ≡ Bad
+    go : (t : Bool) → cond t c (by_keyword f ls) ≡ Bad
     go true = e
     go false = q
 
-none : (f : List ℕ) → byKeyword f [] ≡ Bad
-unfolding byKeyword
+none : (f : List ℕ) → by_keyword f [] ≡ Bad
+unfolding by_keyword
 none f = refl
 
 on-right : {A B C : Type 0} → (B → C) → A ⊎ B → A ⊎ C
@@ -141,17 +141,17 @@ on-right g (inr b) = inr (g b)
 
 -- no field follows the keyword
 alone : (fs : List (List ℕ)) → length fs ≡ 1
-    → (registerLine fs ≡ Bad) × (peripheralLine fs ≡ Bad) × (memoryLine fs ≡ Bad) × (masterLine fs ≡ Bad) × (mapLine fs ≡ Bad)
-unfolding byKeyword blocksOf same peripheralLine memoryLine masterLine mapLine
+    → (register_line fs ≡ Bad) × (peripheral_line fs ≡ Bad) × (memory_line fs ≡ Bad) × (master_line fs ≡ Bad) × (map_line fs ≡ Bad)
+unfolding by_keyword blocks_of same peripheral_line memory_line master_line map_line
 alone [] h = absurd (omega arith)
 alone (f ∷ []) h = (refl, refl, refl, refl, refl)
 alone (f ∷ g ∷ fs) h = absurd (omega arith)
 
 -- nor the block
 block-alone : (fs : List (List ℕ)) → length fs ≡ 2
-    → (requestFields Rifsc 2 fs ≡ Bad) × (requestFields Iac 2 fs ≡ Bad)
-    × ((numberOr Bad (decimalOf (field_at fs 2)) λ guard. requestFields (Risaf (record { 0 = guard })) 3 fs) ≡ Bad)
-unfolding requestFields decimalOf
+    → (request_fields Rifsc 2 fs ≡ Bad) × (request_fields Iac 2 fs ≡ Bad)
+    × ((number_or Bad (decimal_of (field_at fs 2)) λ guard. request_fields (Risaf (record { 0 = guard })) 3 fs) ≡ Bad)
+unfolding request_fields decimal_of
 block-alone [] h = absurd (omega arith)
 block-alone (f ∷ []) h = absurd (omega arith)
 block-alone (f ∷ g ∷ []) h = (refl, refl, refl)
@@ -160,35 +160,35 @@ block-alone (f ∷ g ∷ i ∷ fs) h = absurd (omega arith)
 -- ---- the blocks of a register line
 
 module _ {line : List ℕ} {fs : List (List ℕ)} {p : ℕ} (s : Starts line fs 1 p) where
-  pub is-rifsc : beginsAt line p (bytes "rifsc\t") ≡ true
-      → (registerLine fs ≡ requestFields Rifsc 0 (rest_at (p + 6) line)) × (p + 6 ≤ suc (length line))
-  unfolding byKeyword blocksOf same every
+  pub is-rifsc : begins_at line p (bytes "rifsc\t") ≡ true
+      → (register_line fs ≡ request_fields Rifsc 0 (rest_at (p + 6) line)) × (p + 6 ≤ suc (length line))
+  unfolding by_keyword blocks_of same every
   is-rifsc h =
       let e : suc (p + 5) ≡ p + 6 = omega arith in
       let n : Starts line fs 2 (p + 6) = rw e at (word_next line p (bytes "rifsc") h s refl) in
-      (ap (λ (w : List ℕ). byKeyword w (blocksOf fs)) (word-field line p (bytes "rifsc") h s refl) ∙ sym (request-there n Rifsc), n.within)
+      (ap (λ (w : List ℕ). by_keyword w (blocks_of fs)) (word-field line p (bytes "rifsc") h s refl) ∙ sym (request-there n Rifsc), n.within)
 
-  pub is-iac : beginsAt line p (bytes "iac\t") ≡ true
-      → (registerLine fs ≡ requestFields Iac 0 (rest_at (p + 4) line)) × (p + 4 ≤ suc (length line))
-  unfolding byKeyword blocksOf same every
+  pub is-iac : begins_at line p (bytes "iac\t") ≡ true
+      → (register_line fs ≡ request_fields Iac 0 (rest_at (p + 4) line)) × (p + 4 ≤ suc (length line))
+  unfolding by_keyword blocks_of same every
   is-iac h =
       let e : suc (p + 3) ≡ p + 4 = omega arith in
       let n : Starts line fs 2 (p + 4) = rw e at (word_next line p (bytes "iac") h s refl) in
-      (ap (λ (w : List ℕ). byKeyword w (blocksOf fs)) (word-field line p (bytes "iac") h s refl) ∙ sym (request-there n Iac), n.within)
+      (ap (λ (w : List ℕ). by_keyword w (blocks_of fs)) (word-field line p (bytes "iac") h s refl) ∙ sym (request-there n Iac), n.within)
 
-  pub is-risaf : beginsAt line p (bytes "risaf\t") ≡ true
-      → (registerLine fs ≡ (numberOr Bad (decimalOf (field_at fs 2)) λ guard. requestFields (Risaf (record { 0 = guard })) 3 fs))
+  pub is-risaf : begins_at line p (bytes "risaf\t") ≡ true
+      → (register_line fs ≡ (number_or Bad (decimal_of (field_at fs 2)) λ guard. request_fields (Risaf (record { 0 = guard })) 3 fs))
       × Starts line fs 2 (p + 6)
-  unfolding byKeyword blocksOf same every
+  unfolding by_keyword blocks_of same every
   is-risaf h =
       let e : suc (p + 5) ≡ p + 6 = omega arith in (
-        ap (λ (w : List ℕ). byKeyword w (blocksOf fs)) (word-field line p (bytes "risaf") h s refl),
+        ap (λ (w : List ℕ). by_keyword w (blocks_of fs)) (word-field line p (bytes "risaf") h s refl),
         rw e at (word_next line p (bytes "risaf") h s refl),
       )
 
-pub no_block : {line : List ℕ} {fs : List (List ℕ)} {p : ℕ} → Starts line fs 1 p → beginsAt line p (bytes "rifsc\t") ≡ false
-    → beginsAt line p (bytes "iac\t") ≡ false → beginsAt line p (bytes "risaf\t") ≡ false → registerLine fs ≡ Bad
-unfolding blocksOf
+pub no_block : {line : List ℕ} {fs : List (List ℕ)} {p : ℕ} → Starts line fs 1 p → begins_at line p (bytes "rifsc\t") ≡ false
+    → begins_at line p (bytes "iac\t") ≡ false → begins_at line p (bytes "risaf\t") ≡ false → register_line fs ≡ Bad
+unfolding blocks_of
 no_block {line = line} {fs = fs} {p = p} s a b c =
     past _ (bytes "rifsc") _ _ (on-right (λ e. (block-alone fs e).0) (word-not line p (bytes "rifsc") s (lit< tt) a))
     (past _ (bytes "iac") _ _ (on-right (λ e. (block-alone fs e).1) (word-not line p (bytes "iac") s (lit< tt) b))
@@ -200,22 +200,22 @@ module _ (line : List ℕ) where
   first_field = starts-begin line 0 (omega arith)
 
   -- `reset` is the whole line
-  reset-line : (beginsAt line 0 (bytes "reset") && eqb (length line) 5) ≡ true → line ≡ bytes "reset"
+  reset-line : (begins_at line 0 (bytes "reset") && eqb (length line) 5) ≡ true → line ≡ bytes "reset"
   reset-line h =
-      let k = both_true (beginsAt line 0 (bytes "reset")) (eqb (length line) 5) h in
+      let k = both_true (begins_at line 0 (bytes "reset")) (eqb (length line) 5) h in
       sym (take_all 5 line (omega (arith, eqb-true (length line) 5 k.1))) ∙ same-is (take 5 line) (bytes "reset") k.0
 
-  pub reset-is : (beginsAt line 0 (bytes "reset") && eqb (length line) 5) ≡ true → Event Reset ≡ commandIn (fields_of line)
-  unfolding byKeyword lines_of resetLine same fields_of onto
-  reset-is h = sym (ap (λ (l : List ℕ). commandIn (fields_of l)) (reset-line h))
+  pub reset-is : (begins_at line 0 (bytes "reset") && eqb (length line) 5) ≡ true → Event Reset ≡ command_in (fields_of line)
+  unfolding by_keyword lines_of reset_line same fields_of onto
+  reset-is h = sym (ap (λ (l : List ℕ). command_in (fields_of l)) (reset-line h))
 
-  not-reset : (beginsAt line 0 (bytes "reset") && eqb (length line) 5) ≡ false
-      → (same (field_at (fields_of line) 0) (bytes "reset") ≡ false) ⊎ (resetLine (fields_of line) ≡ Bad)
-  unfolding resetLine
+  not-reset : (begins_at line 0 (bytes "reset") && eqb (length line) 5) ≡ false
+      → (same (field_at (fields_of line) 0) (bytes "reset") ≡ false) ⊎ (reset_line (fields_of line) ≡ Bad)
+  unfolding reset_line
   not-reset h = go (same (field_at (fields_of line) 0) (bytes "reset")) refl (eqb (length (fields_of line)) 1) refl
     where
       go : (t : Bool) → same (field_at (fields_of line) 0) (bytes "reset") ≡ t → (u : Bool) → eqb (length (fields_of line)) 1 ≡ u
-          → (same (field_at (fields_of line) 0) (bytes "reset") ≡ false) ⊎ (resetLine (fields_of line) ≡ Bad)
+          → (same (field_at (fields_of line) 0) (bytes "reset") ≡ false) ⊎ (reset_line (fields_of line) ≡ Bad)
       go false e u q = inl e
       go true e false q = inr (rw q)
       go true e true q =
@@ -224,9 +224,9 @@ module _ (line : List ℕ) where
           let f : Field line 0 5 = rw (ap length w) at (field line 0 (omega arith)) in
           whole (eqb (length line) 5) refl w f n q
         where
-          whole : (t : Bool) → eqb (length line) 5 ≡ t → fieldFrom line 0 ≡ bytes "reset" → Field line 0 5
-              → Starts line (fields_of line) 1 (suc (endFrom line 0)) → eqb (length (fields_of line)) 1 ≡ true
-              → (same (field_at (fields_of line) 0) (bytes "reset") ≡ false) ⊎ (resetLine (fields_of line) ≡ Bad)
+          whole : (t : Bool) → eqb (length line) 5 ≡ t → field_from line 0 ≡ bytes "reset" → Field line 0 5
+              → Starts line (fields_of line) 1 (suc (end_from line 0)) → eqb (length (fields_of line)) 1 ≡ true
+              → (same (field_at (fields_of line) 0) (bytes "reset") ≡ false) ⊎ (reset_line (fields_of line) ≡ Bad)
           whole true k w f n q =
               absurd
               (true≢false
@@ -235,16 +235,16 @@ module _ (line : List ℕ) where
               absurd (true≢false (sym q ∙ other-count n (λ z. eqb-false (length line) 5 k (omega (arith, z, ap length w)))))
 
   -- a line by its keyword, and where the next field starts
-  module _ (word : List ℕ) (plain : noTabs word ≡ true) (h : beginsAt line 0 (word ++ (tab ∷ [])) ≡ true) where
-    pub line-by : commandIn (fields_of line) ≡ byKeyword word (lines_of (fields_of line))
-    line-by = ap (λ (w : List ℕ). byKeyword w (lines_of (fields_of line))) (word-field line 0 word h first_field plain)
+  module _ (word : List ℕ) (plain : no_tabs word ≡ true) (h : begins_at line 0 (word ++ (tab ∷ [])) ≡ true) where
+    pub line-by : command_in (fields_of line) ≡ by_keyword word (lines_of (fields_of line))
+    line-by = ap (λ (w : List ℕ). by_keyword w (lines_of (fields_of line))) (word-field line 0 word h first_field plain)
 
     pub line-next : Starts line (fields_of line) 1 (suc (0 + length word))
     line-next = word_next line 0 word h first_field plain
 
-  pub no_line : beginsAt line 0 (bytes "mem\t") ≡ false → beginsAt line 0 (bytes "reg\t") ≡ false → beginsAt line 0 (bytes "per\t") ≡ false
-      → beginsAt line 0 (bytes "dma\t") ≡ false → beginsAt line 0 (bytes "map\t") ≡ false
-      → (beginsAt line 0 (bytes "reset") && eqb (length line) 5) ≡ false → commandIn (fields_of line) ≡ Bad
+  pub no_line : begins_at line 0 (bytes "mem\t") ≡ false → begins_at line 0 (bytes "reg\t") ≡ false → begins_at line 0 (bytes "per\t") ≡ false
+      → begins_at line 0 (bytes "dma\t") ≡ false → begins_at line 0 (bytes "map\t") ≡ false
+      → (begins_at line 0 (bytes "reset") && eqb (length line) 5) ≡ false → command_in (fields_of line) ≡ Bad
   unfolding lines_of
   no_line mem reg per dma map reset =
       let s = first_field in

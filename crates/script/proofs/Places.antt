@@ -11,7 +11,7 @@ use lib.ListN.{length, get_or, take, drop, length-drop}
 use lib.Seq.{drop-cons, drop-drop, get_or-drop}
 use Rattle.script.specs.Fields.{tab, onto, fields_of, field_at}
 use Rattle.script.specs.Numbers.{every}
-use Rattle.script.specs.Places.{rest_at, fieldFrom, endFrom, ends_at, Starts}
+use Rattle.script.specs.Places.{rest_at, field_from, end_from, ends_at, Starts}
 
 -- ---- the fields from a place on, by the byte there
 
@@ -42,13 +42,13 @@ past_end [] (suc i) h = refl
 past_end (b ∷ line) (suc i) h = past_end line i (omega arith)
 
 -- the field at a place, by the byte there
-pub from-tab : (line : List ℕ) (i : ℕ) → i < length line → get_or line i 0 ≡ tab → i ≡ endFrom line i
+pub from-tab : (line : List ℕ) (i : ℕ) → i < length line → get_or line i 0 ≡ tab → i ≡ end_from line i
 from-tab line i h e = rw (step-tab line i h e) (omega arith)
 
-pub from_end : (line : List ℕ) (i : ℕ) → length line ≤ i → i ≡ endFrom line i
+pub from_end : (line : List ℕ) (i : ℕ) → length line ≤ i → i ≡ end_from line i
 from_end line i h = go (eqb i (length line)) refl
   where
-    go : (t : Bool) → eqb i (length line) ≡ t → i ≡ endFrom line i
+    go : (t : Bool) → eqb i (length line) ≡ t → i ≡ end_from line i
     go true e = rw (at-end line i (eqb-true i (length line) e)) (omega arith)
     go false e = let n = eqb-false i (length line) e in rw (past_end line i (omega arith)) (omega arith)
 
@@ -57,25 +57,25 @@ unfolding onto
 onto-first b [] = refl
 onto-first b (f ∷ fs) = refl
 
-pub from-other : (line : List ℕ) (i : ℕ) → i < length line → (get_or line i 0 ≡ tab → ⊥) → endFrom line (i + 1) ≡ endFrom line i
+pub from-other : (line : List ℕ) (i : ℕ) → i < length line → (get_or line i 0 ≡ tab → ⊥) → end_from line (i + 1) ≡ end_from line i
 from-other line i h e =
     let s : i + 1 ≡ suc i = omega arith in
     rw (s, step_other line i h e, onto-first) (omega arith)
 
 pub field-other : (line : List ℕ) (i : ℕ) → i < length line → (get_or line i 0 ≡ tab → ⊥)
-    → fieldFrom line i ≡ get_or line i 0 ∷ fieldFrom line (i + 1)
+    → field_from line i ≡ get_or line i 0 ∷ field_from line (i + 1)
 field-other line i h e =
     let s : i + 1 ≡ suc i = omega arith in
     rw (s, step_other line i h e) (onto-first (get_or line i 0) (rest_at (suc i) line))
 
-pub field-tab : (line : List ℕ) (i : ℕ) → i < length line → get_or line i 0 ≡ tab → fieldFrom line i ≡ []
+pub field-tab : (line : List ℕ) (i : ℕ) → i < length line → get_or line i 0 ≡ tab → field_from line i ≡ []
 field-tab line i h e = rw (step-tab line i h e)
 
 -- from the line's end on there is none, or an empty one
-pub field_end : (line : List ℕ) (i : ℕ) → length line ≤ i → fieldFrom line i ≡ []
+pub field_end : (line : List ℕ) (i : ℕ) → length line ≤ i → field_from line i ≡ []
 field_end line i h = go (eqb i (length line)) refl
   where
-    go : (t : Bool) → eqb i (length line) ≡ t → fieldFrom line i ≡ []
+    go : (t : Bool) → eqb i (length line) ≡ t → field_from line i ≡ []
     go true e = rw (at-end line i (eqb-true i (length line) e))
     go false e = let n = eqb-false i (length line) e in rw (past_end line i (omega arith))
 
@@ -109,30 +109,30 @@ longer line p n h e f =
     }
 
 -- every place up to the line's end has its field
-field_in : (m : ℕ) (line : List ℕ) (p : ℕ) → p + m ≡ length line → Field line p (length (fieldFrom line p))
+field_in : (m : ℕ) (line : List ℕ) (p : ℕ) → p + m ≡ length line → Field line p (length (field_from line p))
 field_in zero line p h =
     let e : p ≡ length line = omega arith in
     rw (at-end line p e) (none line p (omega arith) (ends-end line p e) (at-end line p e))
 field_in (suc m) line p h = go (eqb (get_or line p 0) tab) refl (field_in m line (suc p) (omega arith))
   where
-    go : (t : Bool) → eqb (get_or line p 0) tab ≡ t → Field line (suc p) (length (fieldFrom line (suc p)))
-        → Field line p (length (fieldFrom line p))
+    go : (t : Bool) → eqb (get_or line p 0) tab ≡ t → Field line (suc p) (length (field_from line (suc p)))
+        → Field line p (length (field_from line p))
     go true e f =
         let s = step-tab line p (omega arith) (eqb-true (get_or line p 0) tab e) in
         rw s (none line p (omega arith) (ends-tab line p (omega arith) (eqb-true (get_or line p 0) tab e)) s)
     go false e f =
         let s = step_other line p (omega arith) (eqb-false (get_or line p 0) tab e) in
-        rw (s, onto-first) (longer line p (length (fieldFrom line (suc p))) (omega arith) (eqb-false (get_or line p 0) tab e) f)
+        rw (s, onto-first) (longer line p (length (field_from line (suc p))) (omega arith) (eqb-false (get_or line p 0) tab e) f)
 
-pub field : (line : List ℕ) (p : ℕ) → p ≤ length line → Field line p (length (fieldFrom line p))
+pub field : (line : List ℕ) (p : ℕ) → p ≤ length line → Field line p (length (field_from line p))
 field line p h = field_in (length line - p) line p (omega arith)
 
-pub field-bytes : (line : List ℕ) (p n : ℕ) → Field line p n → fieldFrom line p ≡ take n (drop p line)
+pub field-bytes : (line : List ℕ) (p n : ℕ) → Field line p n → field_from line p ≡ take n (drop p line)
 field-bytes line p n f = rw f.split
 
 -- the n bytes at p are the field there, where none is a tab and a field may end behind them
-abbrev pub noTabs : List ℕ → Bool
-noTabs s = every (λ b. not (eqb b tab)) s
+abbrev pub no_tabs : List ℕ → Bool
+no_tabs s = every (λ b. not (eqb b tab)) s
 
 pub ends-within : (line : List ℕ) (i : ℕ) → ends_at line i ≡ true → i ≤ length line
 ends-within line i h = go (ltb i (length line)) refl
@@ -152,7 +152,7 @@ ended line p h = go (ltb p (length line)) refl
         let q = eqb-true p (length line) (rw e at h) in
         none line p (omega arith) h (at-end line p q)
 
-pub field_of : (n : ℕ) (line : List ℕ) (p : ℕ) → ends_at line (p + n) ≡ true → noTabs (take n (drop p line)) ≡ true → Field line p n
+pub field_of : (n : ℕ) (line : List ℕ) (p : ℕ) → ends_at line (p + n) ≡ true → no_tabs (take n (drop p line)) ≡ true → Field line p n
 unfolding every
 field_of zero line p h t = ended line p (rw (add-zero p) at h)
 field_of (suc n) line p h t =
@@ -161,8 +161,8 @@ field_of (suc n) line p h t =
     let l : p < length line = omega arith in
     go (eqb (get_or line p 0) tab) refl (rw (drop-cons line p 0 l) at t) (field_of n line (suc p) (rw q at h))
   where
-    go : (u : Bool) → eqb (get_or line p 0) tab ≡ u → (not u && noTabs (take n (drop (suc p) line))) ≡ true
-        → (noTabs (take n (drop (suc p) line)) ≡ true → Field line (suc p) n) → Field line p (suc n)
+    go : (u : Bool) → eqb (get_or line p 0) tab ≡ u → (not u && no_tabs (take n (drop (suc p) line))) ≡ true
+        → (no_tabs (take n (drop (suc p) line)) ≡ true → Field line (suc p) n) → Field line p (suc n)
     go true e k f = absurd (false≢true k)
     go false e k f =
         let w = ends-within line (p + suc n) h in
@@ -171,17 +171,17 @@ field_of (suc n) line p h t =
 -- ---- places in the line
 
 -- past the line's end there is no field, and before it there is one
-pub some-there : (line : List ℕ) (p : ℕ) → 0 < length (fieldFrom line p) → p ≤ length line
+pub some-there : (line : List ℕ) (p : ℕ) → 0 < length (field_from line p) → p ≤ length line
 some-there line p h = go (ltb (length line) p) refl
   where
     go : (t : Bool) → ltb (length line) p ≡ t → p ≤ length line
     go true e = absurd (omega (arith, rw (past_end line p (ltb-true (length line) p e)) at h))
     go false e = ltb-false (length line) p e
 
-pub end-within : (line : List ℕ) (p : ℕ) → p ≤ suc (length line) → endFrom line p ≤ suc (length line)
+pub end-within : (line : List ℕ) (p : ℕ) → p ≤ suc (length line) → end_from line p ≤ suc (length line)
 end-within line p h = go (ltb (length line) p) refl
   where
-    go : (t : Bool) → ltb (length line) p ≡ t → endFrom line p ≤ suc (length line)
+    go : (t : Bool) → ltb (length line) p ≡ t → end_from line p ≤ suc (length line)
     go true e = rw (past_end line p (ltb-true (length line) p e)) (omega arith)
     go false e = omega (arith, (field line p (ltb-false (length line) p e)).within)
 
@@ -193,14 +193,14 @@ some-rest : (line : List ℕ) (p : ℕ) → p ≤ length line → 0 < length (re
 some-rest line p h = rw (field line p h).split (omega arith)
 
 module _ {line : List ℕ} {fs : List (List ℕ)} {k p : ℕ} (s : Starts line fs k p) where
-  pub starts-field : fieldFrom line p ≡ field_at fs k
+  pub starts-field : field_from line p ≡ field_at fs k
   starts-field = rw (s.rest, get_or-drop k fs 0 [], add-zero k)
 
   -- the next field starts behind the byte that ends this one
-  pub starts-next : p ≤ length line → Starts line fs (suc k) (suc (endFrom line p))
+  pub starts-next : p ≤ length line → Starts line fs (suc k) (suc (end_from line p))
   starts-next h =
       let f = field line p h in
-      let e : drop 1 (rest_at p line) ≡ rest_at (suc (endFrom line p)) line = ap (λ (l : List (List ℕ)). drop 1 l) f.split in
+      let e : drop 1 (rest_at p line) ≡ rest_at (suc (end_from line p)) line = ap (λ (l : List (List ℕ)). drop 1 l) f.split in
       let n : k + 1 ≡ suc k = omega arith in
       record {
         has = omega (arith, some-rest line p h, ap length s.rest, length-drop k fs);

@@ -13,10 +13,10 @@ use lib.ListN.{length, length-drop}
 use lib.Seq.{get_or-drop}
 use Rattle.device.specs.declared.event.Block.{Block}
 use Rattle.device.specs.declared.event.Operation.{Operation}
-use Rattle.script.specs.Command.{numberOr, requestFields, rightsFields}
+use Rattle.script.specs.Command.{number_or, request_fields, rights_fields}
 use Rattle.script.specs.Fields.{tab, field_at}
-use Rattle.script.specs.Numbers.{hexOf, decimalOf, either_of, operationOf}
-use Rattle.script.specs.Places.{rest_at, fieldFrom, endFrom, decimalAt, Starts, lastRights}
+use Rattle.script.specs.Numbers.{hex_of, decimal_of, either_of, operation_of}
+use Rattle.script.specs.Places.{rest_at, field_from, end_from, decimal_at, Starts, last_rights}
 use Rattle.script.specs.declared.events.Rights.{Rights}
 use Rattle.script.specs.declared.events.Rights.TheVariants.{Are, NoRights}
 use Rattle.script.specs.declared.numbers.Number.{Number}
@@ -37,26 +37,26 @@ abbrev is_number : Number → Bool
 is_number (Value n) = true
 is_number NoNumber = false
 
-abbrev isChoice : Choice → Bool
-isChoice (Made t) = true
-isChoice Neither = false
+abbrev is_choice : Choice → Bool
+is_choice (Made t) = true
+is_choice Neither = false
 
-abbrev isAction : Action → Bool
-isAction (Of o) = true
-isAction NoAction = false
+abbrev is_action : Action → Bool
+is_action (Of o) = true
+is_action NoAction = false
 
-abbrev isRights : Rights → Bool
-isRights (Are s p) = true
-isRights NoRights = false
+abbrev is_rights : Rights → Bool
+is_rights (Are s p) = true
+is_rights NoRights = false
 
-abbrev isDecimal : Decimal → Bool
-isDecimal (Till n e) = true
-isDecimal NoDecimal = false
+abbrev is_decimal : Decimal → Bool
+is_decimal (Till n e) = true
+is_decimal NoDecimal = false
 
 -- the parts of one that reads
-abbrev valueIn : Decimal → ℕ
-valueIn (Till n e) = n
-valueIn NoDecimal = 0
+abbrev value_in : Decimal → ℕ
+value_in (Till n e) = n
+value_in NoDecimal = 0
 
 abbrev end_in : Decimal → ℕ
 end_in (Till n e) = e
@@ -70,7 +70,7 @@ either_way false a = refl
 
 module _ {line : List ℕ} {fs : List (List ℕ)} {k p : ℕ} (s : Starts line fs k p) where
   -- r is what the field there says, and is v
-  pub there {ℓ} : {R : Type ℓ} (read : List ℕ → R) {r v : R} → r ≡ read (fieldFrom line p) → r ≡ v → read (field_at fs k) ≡ v
+  pub there {ℓ} : {R : Type ℓ} (read : List ℕ → R) {r v : R} → r ≡ read (field_from line p) → r ≡ v → read (field_at fs k) ≡ v
   there read e q = ap read (sym (starts-field s)) ∙ told e q
 
   fixed-next : {R : Type 0} {n : ℕ} {read : List ℕ → R} {bad : R} → Fixed n read bad → (read (field_at fs k) ≡ bad → ⊥)
@@ -79,7 +79,7 @@ module _ {line : List ℕ} {fs : List (List ℕ)} {k p : ℕ} (s : Starts line f
       let e = its-length f line p (λ q. h (ap read (sym (starts-field s)) ∙ q)) in
       rw e at (starts-next s (some-there line p (omega (arith, f.some))))
 
-  pub hex-next : {v : ℕ} → hexOf (field_at fs k) ≡ Value v → Starts line fs (suc k) (p + 9)
+  pub hex-next : {v : ℕ} → hex_of (field_at fs k) ≡ Value v → Starts line fs (suc k) (p + 9)
   hex-next e =
       let q : p + 9 ≡ suc (p + 8) = omega arith in
       rw q (fixed-next hex-fixed (λ b. true≢false (ap is_number (sym e ∙ b))))
@@ -88,41 +88,41 @@ module _ {line : List ℕ} {fs : List (List ℕ)} {k p : ℕ} (s : Starts line f
       → Starts line fs (suc k) (p + 2)
   either-next this that l m e =
       let q : p + 2 ≡ suc (p + 1) = omega arith in
-      rw q (fixed-next (either-fixed this that l m) (λ b. true≢false (ap isChoice (sym e ∙ b))))
+      rw q (fixed-next (either-fixed this that l m) (λ b. true≢false (ap is_choice (sym e ∙ b))))
 
-  pub operation-next : {o : Operation} → operationOf (field_at fs k) ≡ Of o → Starts line fs (suc k) (p + 2)
+  pub operation-next : {o : Operation} → operation_of (field_at fs k) ≡ Of o → Starts line fs (suc k) (p + 2)
   operation-next e =
       let q : p + 2 ≡ suc (p + 1) = omega arith in
-      rw q (fixed-next operation-fixed (λ b. true≢false (ap isAction (sym e ∙ b))))
+      rw q (fixed-next operation-fixed (λ b. true≢false (ap is_action (sym e ∙ b))))
 
-  pub decimal-none : {r : Decimal} → r ≡ decimalAt line p → r ≡ NoDecimal → decimalOf (field_at fs k) ≡ NoNumber
-  unfolding decimalAt
-  decimal-none q e = go (decimalOf (fieldFrom line p)) (ap decimalOf (starts-field s)) (told q e)
+  pub decimal-none : {r : Decimal} → r ≡ decimal_at line p → r ≡ NoDecimal → decimal_of (field_at fs k) ≡ NoNumber
+  unfolding decimal_at
+  decimal-none q e = go (decimal_of (field_from line p)) (ap decimal_of (starts-field s)) (told q e)
     where
-      go : (n : Number) → n ≡ decimalOf (field_at fs k) → (numberOr NoDecimal n λ v. Till v (endFrom line p)) ≡ NoDecimal
-          → decimalOf (field_at fs k) ≡ NoNumber
+      go : (n : Number) → n ≡ decimal_of (field_at fs k) → (number_or NoDecimal n λ v. Till v (end_from line p)) ≡ NoDecimal
+          → decimal_of (field_at fs k) ≡ NoNumber
       go NoNumber h u = sym h
-      go (Value n) h u = absurd (true≢false (ap isDecimal u))
+      go (Value n) h u = absurd (true≢false (ap is_decimal u))
 
-  decimal-is : {r : Decimal} {v e : ℕ} → r ≡ decimalAt line p → r ≡ Till v e → (decimalOf (fieldFrom line p) ≡ Value v) × (endFrom line p ≡ e)
-  unfolding decimalAt
-  decimal-is {v = v} {e = e} q u = go (decimalOf (fieldFrom line p)) refl (told q u)
+  decimal-is : {r : Decimal} {v e : ℕ} → r ≡ decimal_at line p → r ≡ Till v e → (decimal_of (field_from line p) ≡ Value v) × (end_from line p ≡ e)
+  unfolding decimal_at
+  decimal-is {v = v} {e = e} q u = go (decimal_of (field_from line p)) refl (told q u)
     where
-      go : (n : Number) → decimalOf (fieldFrom line p) ≡ n → (numberOr NoDecimal n λ v. Till v (endFrom line p)) ≡ Till v e
-          → (decimalOf (fieldFrom line p) ≡ Value v) × (endFrom line p ≡ e)
-      go NoNumber h u = absurd (false≢true (ap isDecimal u))
-      go (Value n) h u = (h ∙ ap Value (ap valueIn u), ap end_in u)
+      go : (n : Number) → decimal_of (field_from line p) ≡ n → (number_or NoDecimal n λ v. Till v (end_from line p)) ≡ Till v e
+          → (decimal_of (field_from line p) ≡ Value v) × (end_from line p ≡ e)
+      go NoNumber h u = absurd (false≢true (ap is_decimal u))
+      go (Value n) h u = (h ∙ ap Value (ap value_in u), ap end_in u)
 
-  pub decimal-read : {r : Decimal} {v e : ℕ} → r ≡ decimalAt line p → r ≡ Till v e → decimalOf (field_at fs k) ≡ Value v
-  decimal-read q u = ap decimalOf (sym (starts-field s)) ∙ (decimal-is q u).0
+  pub decimal-read : {r : Decimal} {v e : ℕ} → r ≡ decimal_at line p → r ≡ Till v e → decimal_of (field_at fs k) ≡ Value v
+  decimal-read q u = ap decimal_of (sym (starts-field s)) ∙ (decimal-is q u).0
 
-  pub decimal-next : {r : Decimal} {v e : ℕ} → r ≡ decimalAt line p → r ≡ Till v e → Starts line fs (suc k) (e + 1)
-  unfolding decimalOf
-  decimal-next {e = e} q u = go (fieldFrom line p) refl (decimal-is q u)
+  pub decimal-next : {r : Decimal} {v e : ℕ} → r ≡ decimal_at line p → r ≡ Till v e → Starts line fs (suc k) (e + 1)
+  unfolding decimal_of
+  decimal-next {e = e} q u = go (field_from line p) refl (decimal-is q u)
     where
-      go : {v : ℕ} (f : List ℕ) → fieldFrom line p ≡ f → (decimalOf (fieldFrom line p) ≡ Value v) × (endFrom line p ≡ e)
+      go : {v : ℕ} (f : List ℕ) → field_from line p ≡ f → (decimal_of (field_from line p) ≡ Value v) × (end_from line p ≡ e)
           → Starts line fs (suc k) (e + 1)
-      go [] h d = absurd (false≢true (ap is_number (ap decimalOf (sym h) ∙ d.0)))
+      go [] h d = absurd (false≢true (ap is_number (ap decimal_of (sym h) ∙ d.0)))
       go (b ∷ f) h d = rw (add-one, sym d.1) (starts-next s (some-there line p (omega (arith, ap length h))))
 
 -- ---- several fields
@@ -141,34 +141,34 @@ module _ {line : List ℕ} {fs : List (List ℕ)} {k p : ℕ} (s : Starts line f
       go true e = eq-eqb (length (rest_at p line)) n (omega (arith, l, eqb-true (length fs) (k + n) e))
       go false e = ne_eqb (length (rest_at p line)) n λ q. eqb-false (length fs) (k + n) e (omega (arith, l))
 
-  rights-on : (j : ℕ) → rightsFields (rest_at p line) j ≡ rightsFields fs (k + j)
-  unfolding rightsFields
+  rights-on : (j : ℕ) → rights_fields (rest_at p line) j ≡ rights_fields fs (k + j)
+  unfolding rights_fields
   rights-on j =
       let e : k + j + 1 ≡ k + (j + 1) = omega arith in
       rw (fields-there j, fields-there (j + 1), e)
 
   -- the last two fields
-  pub rights-there : lastRights (rest_at p line) ≡ cond (eqb (length fs) (k + 2)) (rightsFields fs k) NoRights
-  unfolding lastRights
+  pub rights-there : last_rights (rest_at p line) ≡ cond (eqb (length fs) (k + 2)) (rights_fields fs k) NoRights
+  unfolding last_rights
   rights-there =
       let e : k + 0 ≡ k = omega arith in
       rw (counts-there 2, rights-on 0, e)
 
-  pub request-there : (b : Block) → requestFields b 0 (rest_at p line) ≡ requestFields b k fs
-  unfolding requestFields
+  pub request-there : (b : Block) → request_fields b 0 (rest_at p line) ≡ request_fields b k fs
+  unfolding request_fields
   request-there b =
       rw (counts-there 5, starts-field s, fields-there 1, fields-there 2, rights-on 3)
 
 -- ---- the rights that end a line
 
 -- they end three bytes after where they start
-pub rights-length : (line : List ℕ) (p : ℕ) → p ≤ suc (length line) → (length line ≡ p + 2 + 1 → ⊥) → NoRights ≡ lastRights (rest_at p line)
-unfolding lastRights rightsFields
+pub rights-length : (line : List ℕ) (p : ℕ) → p ≤ suc (length line) → (length line ≡ p + 2 + 1 → ⊥) → NoRights ≡ last_rights (rest_at p line)
+unfolding last_rights rights_fields
 rights-length line p h k =
     go (either_of (code "s") (code "n") (field_at (rest_at p line) 0)) refl (either_of (code "p") (code "u") (field_at (rest_at p line) 1)) refl
   where
     go : (a : Choice) → either_of (code "s") (code "n") (field_at (rest_at p line) 0) ≡ a
-        → (b : Choice) → either_of (code "p") (code "u") (field_at (rest_at p line) 1) ≡ b → NoRights ≡ lastRights (rest_at p line)
+        → (b : Choice) → either_of (code "p") (code "u") (field_at (rest_at p line) 1) ≡ b → NoRights ≡ last_rights (rest_at p line)
     go Neither e b f = rw e (either_way (eqb (length (rest_at p line)) 2) NoRights)
     go (Made a) e Neither f = rw (e, f) (either_way (eqb (length (rest_at p line)) 2) NoRights)
     go (Made a) e (Made b) f =
@@ -181,4 +181,4 @@ no-rights false r e = inl refl
 
 pub some-rights : (t : Bool) (r : Rights) {a b : Bool} → cond t r NoRights ≡ Are a b → (t ≡ true) × (r ≡ Are a b)
 some-rights true r e = (refl, e)
-some-rights false r e = absurd (false≢true (ap isRights e))
+some-rights false r e = absurd (false≢true (ap is_rights e))

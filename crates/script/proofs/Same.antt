@@ -10,7 +10,7 @@ use lib.Dec.{eqb}
 use lib.ListN.{length, get_or, take, drop, drop_of_length-le}
 use lib.Seq.{drop-cons}
 use Rattle.script.specs.Fields.{same}
-use Rattle.script.specs.Numbers.{either_of, operationOf}
+use Rattle.script.specs.Numbers.{either_of, operation_of}
 use Rattle.script.specs.declared.numbers.Choice.TheVariants.{Made, Neither}
 use Rattle.script.specs.declared.numbers.Action.TheVariants.{NoAction}
 
@@ -48,6 +48,6 @@ either-byte this that b = go (eqb b this) (eqb b that)
     go false true = refl
     go false false = refl
 
-pub other_byte : (b : ℕ) → (b ≡ code "r" → ⊥) → (b ≡ code "w" → ⊥) → (b ≡ code "x" → ⊥) → NoAction ≡ operationOf (b ∷ [])
-unfolding operationOf same
+pub other_byte : (b : ℕ) → (b ≡ code "r" → ⊥) → (b ≡ code "w" → ⊥) → (b ≡ code "x" → ⊥) → NoAction ≡ operation_of (b ∷ [])
+unfolding operation_of same
 other_byte b r w x = rw (ne_eqb b (code "r") r, ne_eqb b (code "w") w, ne_eqb b (code "x") x)

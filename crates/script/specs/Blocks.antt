@@ -1,6 +1,6 @@
 -- What the block of a register line leaves to be read, which is what code goes by.
 use Rattle.std.specs.Prelude.{List, ℕ}
-use Rattle.script.specs.Command.{requestFields}
+use Rattle.script.specs.Command.{request_fields}
 use Rattle.script.specs.Places.{rest_at}
 use Rattle.script.specs.declared.command.Command.{Command}
 use Rattle.script.specs.declared.command.Command.TheVariants.{Bad}
@@ -10,9 +10,9 @@ use Rattle.script.specs.declared.events.BlockField.TheVariants.{NoBlock, Is}
 -- what the line says
 abbrev pub block_line : BlockField → List ℕ → Command
 block_line NoBlock line = Bad
-block_line (Is block p) line = requestFields block 0 (rest_at p line)
+block_line (Is block p) line = request_fields block 0 (rest_at p line)
 
 -- where it is read on
-abbrev pub blockPlace : BlockField → ℕ
-blockPlace NoBlock = 0
-blockPlace (Is block p) = p
+abbrev pub block_place : BlockField → ℕ
+block_place NoBlock = 0
+block_place (Is block p) = p

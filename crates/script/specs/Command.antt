@@ -7,8 +7,8 @@ use Rattle.device.specs.declared.event.Operation.{Operation}
 use Rattle.device.specs.declared.event.Event.TheVariants.{Reset, Register, Peripheral, Memory, Master}
 use Rattle.print.specs.Bytes.{bytes}
 use Rattle.risaf.specs.declared.guards.GuardNumber.{GuardNumber}
-use Rattle.script.specs.Fields.{lineMost, field_at, fields_of, same}
-use Rattle.script.specs.Numbers.{hexOf, decimalOf, either_of, operationOf}
+use Rattle.script.specs.Fields.{line_most, field_at, fields_of, same}
+use Rattle.script.specs.Numbers.{hex_of, decimal_of, either_of, operation_of}
 use Rattle.script.specs.declared.command.Command.{Command}
 use Rattle.script.specs.declared.command.Command.TheVariants.{Event, Map, Bad}
 use Rattle.script.specs.declared.events.Rights.{Rights}
@@ -22,42 +22,42 @@ use Rattle.script.specs.declared.numbers.Action.TheVariants.{Of, NoAction}
 
 -- ---- what follows a field that reads; one that does not makes the whole bad
 
-abbrev pub numberOr {ℓ} : {A : Type ℓ} → A → Number → (ℕ → A) → A
-numberOr bad (Value n) rest = rest n
-numberOr bad NoNumber rest = bad
+abbrev pub number_or {ℓ} : {A : Type ℓ} → A → Number → (ℕ → A) → A
+number_or bad (Value n) rest = rest n
+number_or bad NoNumber rest = bad
 
-abbrev pub choiceOr {ℓ} : {A : Type ℓ} → A → Choice → (Bool → A) → A
-choiceOr bad (Made t) rest = rest t
-choiceOr bad Neither rest = bad
+abbrev pub choice_or {ℓ} : {A : Type ℓ} → A → Choice → (Bool → A) → A
+choice_or bad (Made t) rest = rest t
+choice_or bad Neither rest = bad
 
-abbrev pub actionOr {ℓ} : {A : Type ℓ} → A → Action → (Operation → A) → A
-actionOr bad (Of o) rest = rest o
-actionOr bad NoAction rest = bad
+abbrev pub action_or {ℓ} : {A : Type ℓ} → A → Action → (Operation → A) → A
+action_or bad (Of o) rest = rest o
+action_or bad NoAction rest = bad
 
-abbrev pub rightsOr {ℓ} : {A : Type ℓ} → A → Rights → (Bool → Bool → A) → A
-rightsOr bad (Are secure privileged) rest = rest secure privileged
-rightsOr bad NoRights rest = bad
+abbrev pub rights_or {ℓ} : {A : Type ℓ} → A → Rights → (Bool → Bool → A) → A
+rights_or bad (Are secure privileged) rest = rest secure privileged
+rights_or bad NoRights rest = bad
 
 -- ---- fields that several lines have; fs are the line's fields
 
 -- r/w
-abbrev pub writeOf : List ℕ → Choice
-writeOf f = either_of (code "w") (code "r") f
+abbrev pub write_of : List ℕ → Choice
+write_of f = either_of (code "w") (code "r") f
 
 -- s/n p/u, from field k on
-unfoldable pub rightsFields : List (List ℕ) → ℕ → Rights
-rightsFields fs k =
-    choiceOr NoRights (either_of (code "s") (code "n") (field_at fs k)) λ secure.
-    choiceOr NoRights (either_of (code "p") (code "u") (field_at fs (k + 1))) λ privileged.
+unfoldable pub rights_fields : List (List ℕ) → ℕ → Rights
+rights_fields fs k =
+    choice_or NoRights (either_of (code "s") (code "n") (field_at fs k)) λ secure.
+    choice_or NoRights (either_of (code "p") (code "u") (field_at fs (k + 1))) λ privileged.
     Are secure privileged
 
 -- guard offset width r/w, from field k on, and what follows them
-unfoldable pub targetFields : List (List ℕ) → ℕ → (GuardNumber → ℕ → ℕ → Bool → Command) → Command
-targetFields fs k rest =
-    numberOr Bad (decimalOf (field_at fs k)) λ guard.
-    numberOr Bad (hexOf (field_at fs (k + 1))) λ offset.
-    numberOr Bad (decimalOf (field_at fs (k + 2))) λ width.
-    choiceOr Bad (writeOf (field_at fs (k + 3))) λ write.
+unfoldable pub target_fields : List (List ℕ) → ℕ → (GuardNumber → ℕ → ℕ → Bool → Command) → Command
+target_fields fs k rest =
+    number_or Bad (decimal_of (field_at fs k)) λ guard.
+    number_or Bad (hex_of (field_at fs (k + 1))) λ offset.
+    number_or Bad (decimal_of (field_at fs (k + 2))) λ width.
+    choice_or Bad (write_of (field_at fs (k + 3))) λ write.
     rest (record { 0 = guard }) offset width write
 
 -- ---- the lines; field fs 0 is the keyword
@@ -67,22 +67,22 @@ abbrev pub exactly : ℕ → List (List ℕ) → Command → Command
 exactly n fs c = cond (eqb (length fs) n) c Bad
 
 -- the line by one of its fields: what the first with that keyword says
-unfoldable pub byKeyword : List ℕ → List (List ℕ × Command) → Command
-byKeyword word [] = Bad
-byKeyword word (l ∷ ls) = cond (same word l.0) l.1 (byKeyword word ls)
+unfoldable pub by_keyword : List ℕ → List (List ℕ × Command) → Command
+by_keyword word [] = Bad
+by_keyword word (l ∷ ls) = cond (same word l.0) l.1 (by_keyword word ls)
 
 -- `reset`
-unfoldable pub resetLine : List (List ℕ) → Command
-resetLine fs = exactly 1 fs (Event Reset)
+unfoldable pub reset_line : List (List ℕ) → Command
+reset_line fs = exactly 1 fs (Event Reset)
 
 -- offset r/w data s/n p/u, from field k to the last
-unfoldable pub requestFields : Block → ℕ → List (List ℕ) → Command
-requestFields block k fs =
+unfoldable pub request_fields : Block → ℕ → List (List ℕ) → Command
+request_fields block k fs =
     exactly (k + 5) fs
-    (numberOr Bad (hexOf (field_at fs k)) λ offset.
-    choiceOr Bad (writeOf (field_at fs (k + 1))) λ write.
-    numberOr Bad (hexOf (field_at fs (k + 2))) λ value.
-    rightsOr Bad (rightsFields fs (k + 3)) λ secure privileged.
+    (number_or Bad (hex_of (field_at fs k)) λ offset.
+    choice_or Bad (write_of (field_at fs (k + 1))) λ write.
+    number_or Bad (hex_of (field_at fs (k + 2))) λ value.
+    rights_or Bad (rights_fields fs (k + 3)) λ secure privileged.
     Event
     (Register
     (record {
@@ -91,34 +91,34 @@ requestFields block k fs =
     })))
 
 -- `reg` block .., with block `rifsc`, `iac`, or `risaf` with its number as the next field
-unfoldable pub blocksOf : List (List ℕ) → List (List ℕ × Command)
-blocksOf fs =
-    (bytes "rifsc", requestFields Rifsc 2 fs)
-    ∷ (bytes "iac", requestFields Iac 2 fs)
-    ∷ (bytes "risaf", (numberOr Bad (decimalOf (field_at fs 2)) λ guard. requestFields (Risaf (record { 0 = guard })) 3 fs))
+unfoldable pub blocks_of : List (List ℕ) → List (List ℕ × Command)
+blocks_of fs =
+    (bytes "rifsc", request_fields Rifsc 2 fs)
+    ∷ (bytes "iac", request_fields Iac 2 fs)
+    ∷ (bytes "risaf", (number_or Bad (decimal_of (field_at fs 2)) λ guard. request_fields (Risaf (record { 0 = guard })) 3 fs))
     ∷ []
 
-abbrev pub registerLine : List (List ℕ) → Command
-registerLine fs = byKeyword (field_at fs 1) (blocksOf fs)
+abbrev pub register_line : List (List ℕ) → Command
+register_line fs = by_keyword (field_at fs 1) (blocks_of fs)
 
 -- `per` p r/w/x s/n p/u
-unfoldable pub peripheralLine : List (List ℕ) → Command
-peripheralLine fs =
+unfoldable pub peripheral_line : List (List ℕ) → Command
+peripheral_line fs =
     exactly 5 fs
-    (numberOr Bad (decimalOf (field_at fs 1)) λ p.
-    actionOr Bad (operationOf (field_at fs 2)) λ operation.
-    rightsOr Bad (rightsFields fs 3) λ secure privileged.
+    (number_or Bad (decimal_of (field_at fs 1)) λ p.
+    action_or Bad (operation_of (field_at fs 2)) λ operation.
+    rights_or Bad (rights_fields fs 3) λ secure privileged.
     Event
     (Peripheral
     (record { peripheral = record { 0 = p }; operation = operation; secure = secure; privileged = privileged })))
 
 -- `mem` guard offset width r/w cid s/n p/u
-unfoldable pub memoryLine : List (List ℕ) → Command
-memoryLine fs =
+unfoldable pub memory_line : List (List ℕ) → Command
+memory_line fs =
     exactly 8 fs
-    (targetFields fs 1 λ guard offset width write.
-    numberOr Bad (decimalOf (field_at fs 5)) λ cid.
-    rightsOr Bad (rightsFields fs 6) λ secure privileged.
+    (target_fields fs 1 λ guard offset width write.
+    number_or Bad (decimal_of (field_at fs 5)) λ cid.
+    rights_or Bad (rights_fields fs 6) λ secure privileged.
     Event
     (Memory
     (record {
@@ -129,11 +129,11 @@ memoryLine fs =
     })))
 
 -- `dma` master guard offset width r/w
-unfoldable pub masterLine : List (List ℕ) → Command
-masterLine fs =
+unfoldable pub master_line : List (List ℕ) → Command
+master_line fs =
     exactly 6 fs
-    (numberOr Bad (decimalOf (field_at fs 1)) λ master.
-    targetFields fs 2 λ guard offset width write.
+    (number_or Bad (decimal_of (field_at fs 1)) λ master.
+    target_fields fs 2 λ guard offset width write.
     Event
     (Master
     (record {
@@ -145,23 +145,23 @@ masterLine fs =
     })))
 
 -- `map` guard
-unfoldable pub mapLine : List (List ℕ) → Command
-mapLine fs = exactly 2 fs (numberOr Bad (decimalOf (field_at fs 1)) λ guard. Map (record { 0 = guard }))
+unfoldable pub map_line : List (List ℕ) → Command
+map_line fs = exactly 2 fs (number_or Bad (decimal_of (field_at fs 1)) λ guard. Map (record { 0 = guard }))
 
 -- ---- any line
 
 unfoldable pub lines_of : List (List ℕ) → List (List ℕ × Command)
 lines_of fs =
-    (bytes "reset", resetLine fs)
-    ∷ (bytes "reg", registerLine fs)
-    ∷ (bytes "per", peripheralLine fs)
-    ∷ (bytes "mem", memoryLine fs)
-    ∷ (bytes "dma", masterLine fs)
-    ∷ (bytes "map", mapLine fs)
+    (bytes "reset", reset_line fs)
+    ∷ (bytes "reg", register_line fs)
+    ∷ (bytes "per", peripheral_line fs)
+    ∷ (bytes "mem", memory_line fs)
+    ∷ (bytes "dma", master_line fs)
+    ∷ (bytes "map", map_line fs)
     ∷ []
 
-abbrev pub commandIn : List (List ℕ) → Command
-commandIn fs = byKeyword (field_at fs 0) (lines_of fs)
+abbrev pub command_in : List (List ℕ) → Command
+command_in fs = by_keyword (field_at fs 0) (lines_of fs)
 
-unfoldable pub commandOf : List ℕ → Command
-commandOf line = cond (leb (length line) lineMost) (commandIn (fields_of line)) Bad
+unfoldable pub command_of : List ℕ → Command
+command_of line = cond (leb (length line) line_most) (command_in (fields_of line)) Bad

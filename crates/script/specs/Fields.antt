@@ -3,8 +3,8 @@ use Prim.Native.Char.{code}
 use Rattle.std.specs.Prelude.{Bool, true, false, ◌&&◌, cond, List, [], ◌∷◌, ℕ, eqb, get_or}
 
 -- the most bytes of a line
-abbrev pub lineMost : ℕ
-lineMost = 64
+abbrev pub line_most : ℕ
+line_most = 64
 
 abbrev pub tab : ℕ
 tab = code "\t"

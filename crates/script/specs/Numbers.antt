@@ -13,12 +13,12 @@ use Rattle.script.specs.declared.numbers.Action.TheVariants.{Of, NoAction}
 -- ---- digits
 
 -- 0 to 9
-abbrev pub isDecimal : ℕ → Bool
-isDecimal b = leb (code "0") b && leb b (code "9")
+abbrev pub is_decimal : ℕ → Bool
+is_decimal b = leb (code "0") b && leb b (code "9")
 
 -- 0 to 9, a to f
-abbrev pub isHex : ℕ → Bool
-isHex b = isDecimal b || (leb (code "a") b && leb b (code "f"))
+abbrev pub is_hex : ℕ → Bool
+is_hex b = is_decimal b || (leb (code "a") b && leb b (code "f"))
 
 -- the value of a digit
 abbrev pub digit : ℕ → ℕ
@@ -29,20 +29,20 @@ every p [] = true
 every p (b ∷ bs) = p b && every p bs
 
 -- the number that has the digits of n and then these
-unfoldable pub valueFrom : ℕ → ℕ → List ℕ → ℕ
-valueFrom base n [] = n
-valueFrom base n (b ∷ bs) = valueFrom base (base * n + digit b) bs
+unfoldable pub value_from : ℕ → ℕ → List ℕ → ℕ
+value_from base n [] = n
+value_from base n (b ∷ bs) = value_from base (base * n + digit b) bs
 
 -- ---- numbers
 
 -- a number, where the test is passed
-abbrev pub numberIf : Bool → ℕ → Number
-numberIf true n = Value n
-numberIf false n = NoNumber
+abbrev pub number_if : Bool → ℕ → Number
+number_if true n = Value n
+number_if false n = NoNumber
 
 -- exactly 8 digits
-unfoldable pub hexOf : List ℕ → Number
-hexOf s = numberIf (eqb (length s) 8 && every isHex s) (valueFrom 16 0 s)
+unfoldable pub hex_of : List ℕ → Number
+hex_of s = number_if (eqb (length s) 8 && every is_hex s) (value_from 16 0 s)
 
 -- at least one digit, and no zero before another
 abbrev pub unpadded : List ℕ → Bool
@@ -51,12 +51,12 @@ unpadded (b ∷ []) = true
 unpadded (b ∷ c ∷ bs) = not (eqb b (code "0"))
 
 -- the most that a decimal number may be
-abbrev pub numberMost : ℕ
-numberMost = 4294967295
+abbrev pub number_most : ℕ
+number_most = 4294967295
 
-unfoldable pub decimalOf : List ℕ → Number
-decimalOf s =
-    numberIf (unpadded s && every isDecimal s && leb (valueFrom 10 0 s) numberMost) (valueFrom 10 0 s)
+unfoldable pub decimal_of : List ℕ → Number
+decimal_of s =
+    number_if (unpadded s && every is_decimal s && leb (value_from 10 0 s) number_most) (value_from 10 0 s)
 
 -- ---- letters
 
@@ -65,6 +65,6 @@ unfoldable pub either_of : ℕ → ℕ → List ℕ → Choice
 either_of this that s = cond (same s (this ∷ [])) (Made true) (cond (same s (that ∷ [])) (Made false) Neither)
 
 -- r, w or x
-unfoldable pub operationOf : List ℕ → Action
-operationOf s =
+unfoldable pub operation_of : List ℕ → Action
+operation_of s =
     cond (same s (code "r" ∷ [])) (Of Read) (cond (same s (code "w" ∷ [])) (Of Write) (cond (same s (code "x" ∷ [])) (Of Fetch) NoAction))

@@ -1,8 +1,8 @@
 -- Where a line's fields start and end, which is what code goes by.
 use Rattle.std.specs.Prelude.{Bool, cond, List, [], ◌∷◌, ◌≡◌, ℕ, zero, suc, ◌+◌, ◌*◌, ◌≤◌, eqb, ltb, length, get_or, take, drop}
-use Rattle.script.specs.Command.{numberOr, rightsFields}
+use Rattle.script.specs.Command.{number_or, rights_fields}
 use Rattle.script.specs.Fields.{tab, field_at, fields_of, same}
-use Rattle.script.specs.Numbers.{decimalOf}
+use Rattle.script.specs.Numbers.{decimal_of}
 use Rattle.script.specs.declared.numbers.Decimal.{Decimal}
 use Rattle.script.specs.declared.numbers.Decimal.TheVariants.{NoDecimal, Till}
 use Rattle.script.specs.declared.events.Rights.{Rights}
@@ -15,12 +15,12 @@ rest_at (suc p) [] = []
 rest_at (suc p) (b ∷ line) = rest_at p line
 
 -- the field that starts at place p
-abbrev pub fieldFrom : List ℕ → ℕ → List ℕ
-fieldFrom line p = field_at (rest_at p line) 0
+abbrev pub field_from : List ℕ → ℕ → List ℕ
+field_from line p = field_at (rest_at p line) 0
 
 -- where it ends
-abbrev pub endFrom : List ℕ → ℕ → ℕ
-endFrom line p = p + length (fieldFrom line p)
+abbrev pub end_from : List ℕ → ℕ → ℕ
+end_from line p = p + length (field_from line p)
 
 -- a field may end at place i: there is a tab, or the line's end
 abbrev pub ends_at : List ℕ → ℕ → Bool
@@ -33,18 +33,18 @@ pub record Starts (line : List ℕ) (fs : List (List ℕ)) (k p : ℕ) : Type 0 
   pub rest : rest_at p line ≡ drop k fs
 
 -- four bytes as one number, the first the highest
-abbrev pub fourAt : List ℕ → ℕ → ℕ
-fourAt line p =
+abbrev pub four_at : List ℕ → ℕ → ℕ
+four_at line p =
     0x100_0000 * get_or line p 0 + 0x1_0000 * get_or line (p + 1) 0 + 0x100 * get_or line (p + 2) 0 + get_or line (p + 3) 0
 
 -- the bytes from place p on begin with these
-abbrev pub beginsAt : List ℕ → ℕ → List ℕ → Bool
-beginsAt line p word = same (take (length word) (drop p line)) word
+abbrev pub begins_at : List ℕ → ℕ → List ℕ → Bool
+begins_at line p word = same (take (length word) (drop p line)) word
 
 -- the decimal number at place p, and where its field ends
-unfoldable pub decimalAt : List ℕ → ℕ → Decimal
-decimalAt line p = numberOr NoDecimal (decimalOf (fieldFrom line p)) λ n. Till n (endFrom line p)
+unfoldable pub decimal_at : List ℕ → ℕ → Decimal
+decimal_at line p = number_or NoDecimal (decimal_of (field_from line p)) λ n. Till n (end_from line p)
 
 -- s/n p/u, and no field more
-unfoldable pub lastRights : List (List ℕ) → Rights
-lastRights fs = cond (eqb (length fs) 2) (rightsFields fs 0) NoRights
+unfoldable pub last_rights : List (List ℕ) → Rights
+last_rights fs = cond (eqb (length fs) 2) (rights_fields fs 0) NoRights

@@ -1,7 +1,7 @@
 ghost use Rattle.std.specs.Prelude.{◌≡◌};
 ghost use Rattle.script.specs.Fields.{fields_of};
 ghost use Rattle.script.specs.Places.{Starts};
-ghost use Rattle.script.specs.Command.{commandIn, commandOf, mapLine};
+ghost use Rattle.script.specs.Command.{command_in, command_of, map_line};
 
 use crate::events::{master, memory, peripheral, register};
 use crate::fields::{LINE_MOST, begins};
@@ -26,7 +26,7 @@ pub enum Command {
 // `map` guard, from the field behind the keyword on
 fn map(line: &[u8], from: usize) -> Command
     requires { Starts line.now (fields_of line.now) 1 from }
-    ensures { result ≡ mapLine (fields_of line.now) }
+    ensures { result ≡ map_line (fields_of line.now) }
 {
     let Decimal::Till(guard, end) = decimal_at(line, from) else {
         return Command::Bad;
@@ -39,7 +39,7 @@ fn map(line: &[u8], from: usize) -> Command
 
 // By the keyword, the first field.
 fn by_keyword(line: &[u8]) -> Command
-    ensures { result ≡ commandIn (fields_of line.now) }
+    ensures { result ≡ command_in (fields_of line.now) }
 {
     if begins(line, 0, b"mem\t") {
         return memory(line, KEYWORD_STEP);
@@ -64,7 +64,7 @@ fn by_keyword(line: &[u8]) -> Command
 
 // A line's bytes before the line feed.
 pub fn read_line(line: &[u8]) -> Command
-    ensures { result ≡ commandOf line.now }
+    ensures { result ≡ command_of line.now }
 {
     if LINE_MOST < line.len() {
         return Command::Bad;

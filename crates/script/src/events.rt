@@ -1,8 +1,8 @@
 ghost use Rattle.std.specs.Prelude.{◌≡◌, ◌≤◌, suc, length};
 ghost use Rattle.script.specs.Fields.{fields_of};
-ghost use Rattle.script.specs.Places.{Starts, lastRights, rest_at};
-ghost use Rattle.script.specs.Blocks.{block_line, blockPlace};
-ghost use Rattle.script.specs.Command.{masterLine, memoryLine, peripheralLine, registerLine, requestFields};
+ghost use Rattle.script.specs.Places.{Starts, last_rights, rest_at};
+ghost use Rattle.script.specs.Blocks.{block_line, block_place};
+ghost use Rattle.script.specs.Command.{master_line, memory_line, peripheral_line, register_line, request_fields};
 
 use crate::command::Command;
 use crate::fields::begins;
@@ -38,7 +38,7 @@ enum BlockField {
 // s/n p/u from `from` to the line's end
 fn last_rights(line: &[u8], from: usize) -> Rights
     requires { from ≤ suc (length line.now) }
-    ensures { result ≡ lastRights (rest_at from line.now) }
+    ensures { result ≡ last_rights (rest_at from line.now) }
 {
     let second = from + LETTER_STEP;
     if line.len() != second + 1 {
@@ -56,7 +56,7 @@ fn last_rights(line: &[u8], from: usize) -> Rights
 // offset r/w data s/n p/u from `from` to the line's end
 fn request(line: &[u8], from: usize, block: Block) -> Command
     requires { from ≤ suc (length line.now) }
-    ensures { result ≡ requestFields block 0 (rest_at from line.now) }
+    ensures { result ≡ request_fields block 0 (rest_at from line.now) }
 {
     let Number::Value(offset) = hex_at(line, from) else {
         return Command::Bad;
@@ -87,7 +87,7 @@ fn request(line: &[u8], from: usize, block: Block) -> Command
 // The block of a register line, of `risaf` with the field of its number.
 fn block_at(line: &[u8], from: usize) -> BlockField
     requires { Starts line.now (fields_of line.now) 1 from }
-    ensures { (registerLine (fields_of line.now) ≡ block_line result line.now) × (blockPlace result ≤ suc (length line.now)) }
+    ensures { (register_line (fields_of line.now) ≡ block_line result line.now) × (block_place result ≤ suc (length line.now)) }
 {
     if begins(line, from, b"rifsc\t") {
         return BlockField::Is(Block::Rifsc, from + RIF_STEP);
@@ -109,7 +109,7 @@ fn block_at(line: &[u8], from: usize) -> BlockField
 // `reg` block offset r/w data s/n p/u
 pub(crate) fn register(line: &[u8], from: usize) -> Command
     requires { Starts line.now (fields_of line.now) 1 from }
-    ensures { result ≡ registerLine (fields_of line.now) }
+    ensures { result ≡ register_line (fields_of line.now) }
 {
     let BlockField::Is(block, next) = block_at(line, from) else {
         return Command::Bad;
@@ -120,7 +120,7 @@ pub(crate) fn register(line: &[u8], from: usize) -> Command
 // `per` p r/w/x s/n p/u
 pub(crate) fn peripheral(line: &[u8], from: usize) -> Command
     requires { Starts line.now (fields_of line.now) 1 from }
-    ensures { result ≡ peripheralLine (fields_of line.now) }
+    ensures { result ≡ peripheral_line (fields_of line.now) }
 {
     let Decimal::Till(p, end) = decimal_at(line, from) else {
         return Command::Bad;
@@ -142,7 +142,7 @@ pub(crate) fn peripheral(line: &[u8], from: usize) -> Command
 // `mem` guard offset width r/w cid s/n p/u
 pub(crate) fn memory(line: &[u8], from: usize) -> Command
     requires { Starts line.now (fields_of line.now) 1 from }
-    ensures { result ≡ memoryLine (fields_of line.now) }
+    ensures { result ≡ memory_line (fields_of line.now) }
 {
     let Decimal::Till(guard, guard_end) = decimal_at(line, from) else {
         return Command::Bad;
@@ -178,7 +178,7 @@ pub(crate) fn memory(line: &[u8], from: usize) -> Command
 // `dma` master guard offset width r/w
 pub(crate) fn master(line: &[u8], from: usize) -> Command
     requires { Starts line.now (fields_of line.now) 1 from }
-    ensures { result ≡ masterLine (fields_of line.now) }
+    ensures { result ≡ master_line (fields_of line.now) }
 {
     let Decimal::Till(master, master_end) = decimal_at(line, from) else {
         return Command::Bad;

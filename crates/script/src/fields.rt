@@ -1,5 +1,5 @@
 ghost use Rattle.std.specs.Prelude.{◌≡◌, ◌+◌, ◌≤◌, suc, length};
-ghost use Rattle.script.specs.Places.{beginsAt, ends_at, fourAt};
+ghost use Rattle.script.specs.Places.{begins_at, ends_at, four_at};
 
 // The most bytes of a line.
 pub(crate) const LINE_MOST: usize = 64;
@@ -20,7 +20,7 @@ pub(crate) fn ends(line: &[u8], place: usize) -> bool
 // Four bytes as one number, the first the highest: the machine loads them at once.
 pub(crate) fn four(line: &[u8], from: usize) -> u32
     requires { from + 4 ≤ length line.now }
-    ensures { result ≡ fourAt line.now from }
+    ensures { result ≡ four_at line.now from }
 {
     0x100_0000 * (line[from] as u32)
         + 0x1_0000 * (line[from + 1] as u32)
@@ -31,7 +31,7 @@ pub(crate) fn four(line: &[u8], from: usize) -> u32
 // Whether the bytes from `from` on begin with a keyword, which has four bytes or more.
 pub(crate) fn begins(line: &[u8], from: usize, keyword: &[u8]) -> bool
     requires { (from ≤ suc (length line.now)) × (4 ≤ length keyword.now) × (length keyword.now ≤ 8) }
-    ensures { result ≡ beginsAt line.now from keyword.now }
+    ensures { result ≡ begins_at line.now from keyword.now }
 {
     if line.len() < from + keyword.len() {
         return false;

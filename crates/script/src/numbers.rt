@@ -1,7 +1,7 @@
 ghost use Rattle.std.specs.Prelude.{◌≡◌, ◌+◌, ◌≤◌, ◌<◌, suc, drop, length, take};
 ghost use Rattle.script.specs.Fields.{tab};
-ghost use Rattle.script.specs.Places.{decimalAt, fieldFrom};
-ghost use Rattle.script.specs.Numbers.{either_of, hexOf, isDecimal, operationOf};
+ghost use Rattle.script.specs.Places.{decimal_at, field_from};
+ghost use Rattle.script.specs.Numbers.{either_of, hex_of, is_decimal, operation_of};
 
 use crate::fields::{ends, four};
 use device::Operation;
@@ -61,7 +61,7 @@ pub(crate) enum Action {
 // `letters` says rightly whether it is a letter. It does where the digit is below 16 and its own character is the one in `text`.
 fn hex(line: &[u8], from: usize) -> Number
     requires { from + 8 ≤ length line.now }
-    ensures { result ≡ hexOf (take 8 (drop from line.now)) }
+    ensures { result ≡ hex_of (take 8 (drop from line.now)) }
 {
     let text = 0x1_0000_0000 * (four(line, from) as u64) + (four(line, from + 4) as u64);
     let letters = (text & 64 * EACH) >> 6;
@@ -79,7 +79,7 @@ fn hex(line: &[u8], from: usize) -> Number
 }
 
 fn is_decimal(b: u8) -> bool
-    ensures { result ≡ isDecimal b }
+    ensures { result ≡ is_decimal b }
 {
     (b'0' <= b) & (b <= b'9')
 }
@@ -88,7 +88,7 @@ fn is_decimal(b: u8) -> bool
 
 pub(crate) fn hex_at(line: &[u8], from: usize) -> Number
     requires { from ≤ suc (length line.now) }
-    ensures { result ≡ hexOf (fieldFrom line.now from) }
+    ensures { result ≡ hex_of (field_from line.now from) }
 {
     if !ends(line, from + HEX_DIGITS) {
         return Number::NoNumber;
@@ -98,7 +98,7 @@ pub(crate) fn hex_at(line: &[u8], from: usize) -> Number
 
 // A decimal number without leading zeros.
 pub(crate) fn decimal_at(line: &[u8], from: usize) -> Decimal
-    ensures { result ≡ decimalAt line.now from }
+    ensures { result ≡ decimal_at line.now from }
 {
     if line.len() <= from {
         return Decimal::NoDecimal;
@@ -129,7 +129,7 @@ pub(crate) fn decimal_at(line: &[u8], from: usize) -> Decimal
 // The one letter or the other.
 pub(crate) fn either_at(line: &[u8], from: usize, this: u8, that: u8) -> Choice
     requires { (from ≤ suc (length line.now)) × (tab < this) × (tab < that) }
-    ensures { result ≡ either_of this that (fieldFrom line.now from) }
+    ensures { result ≡ either_of this that (field_from line.now from) }
 {
     if !ends(line, from + 1) {
         return Choice::Neither;
@@ -145,7 +145,7 @@ pub(crate) fn either_at(line: &[u8], from: usize, this: u8, that: u8) -> Choice
 // r, w or x.
 pub(crate) fn operation_at(line: &[u8], from: usize) -> Action
     requires { from ≤ suc (length line.now) }
-    ensures { result ≡ operationOf (fieldFrom line.now from) }
+    ensures { result ≡ operation_of (field_from line.now from) }
 {
     if !ends(line, from + 1) {
         return Action::NoAction;

@@ -1,4 +1,4 @@
--- One more span in memory that holds rows is a join: `put_in` and `putCount` are what `join` says. Assumes nothing.
+-- One more span in memory that holds rows is a join: `put_in` and `put_count` are what `join` says. Assumes nothing.
 use Prim.Native.Nat.{ℕ, suc, ◌+◌, ◌-◌, ◌*◌, ◌/◌, ◌≤◌, ◌<◌}
 use mathlib.Core.Path.{◌≡◌, refl, sym, ap, ◌∙◌}
 use mathlib.Core.Logic.{⊎_elim, ◌≢◌}
@@ -11,24 +11,24 @@ use lib.Seq.{get_or-append-add, drop-drop, sets-eq}
 use borrow.Author.Tests.{lt-ltb, le-ltb, eq-eqb, ne_eqb}
 use Rattle.spans.specs.Rows.{Rows, none, more, flat, size, filled}
 use Rattle.spans.specs.Map.{join}
-use Rattle.spans.specs.Put.{putCount, put_in}
+use Rattle.spans.specs.Put.{put_count, put_in}
 use Rattle.spans.proofs.Order.{below_or, equal-or}
 use Rattle.spans.proofs.Memory.{length-flat, flat-more, filled-front, filled-rest}
 
 -- ---- the three ways of one more span
 
 module _ (l : List ℕ) (n s e q : ℕ) where
-  pub put_full : length l / 3 ≤ n → (n ≡ putCount l n q) × (l ≡ put_in l n s e q)
-  unfolding putCount put_in
+  pub put_full : length l / 3 ≤ n → (n ≡ put_count l n q) × (l ≡ put_in l n s e q)
+  unfolding put_count put_in
   put_full full = simp (le-ltb n (length l / 3) full) (refl, refl)
 
-  pub put-grows : n < length l / 3 → 0 < n → get_or l (3 * n - 1) 0 ≡ q → (n ≡ putCount l n q) × (set l (3 * n - 2) e ≡ put_in l n s e q)
-  unfolding putCount put_in
+  pub put-grows : n < length l / 3 → 0 < n → get_or l (3 * n - 1) 0 ≡ q → (n ≡ put_count l n q) × (set l (3 * n - 2) e ≡ put_in l n s e q)
+  unfolding put_count put_in
   put-grows free some same = simp (lt-ltb n (length l / 3) free, lt-ltb 0 n some, eq-eqb (get_or l (3 * n - 1) 0) q same) (refl, refl)
 
   pub put-adds : n < length l / 3 → (0 < n → get_or l (3 * n - 1) 0 ≢ q)
-      → (n + 1 ≡ putCount l n q) × (set (set (set l (3 * n) s) (3 * n + 1) e) (3 * n + 2) q ≡ put_in l n s e q)
-  unfolding putCount put_in
+      → (n + 1 ≡ put_count l n q) × (set (set (set l (3 * n) s) (3 * n + 1) e) (3 * n + 2) q ≡ put_in l n s e q)
+  unfolding put_count put_in
   put-adds free other =
       ⊎_elim
       (λ some. simp (lt-ltb n (length l / 3) free, lt-ltb 0 n some, ne_eqb (get_or l (3 * n - 1) 0) q (other some)) (refl, refl))
@@ -73,7 +73,7 @@ added rs l s e q h =
 
 -- l₀ with the rows rs over its front, where there is room for a row more: one more span leaves l₀ with their join over its front
 pub put-joins : (rs : Rows) (l₀ l : List ℕ) (n s e q : ℕ) → n ≡ size rs → l ≡ filled rs l₀ → 3 * n + 3 ≤ length l
-    → (putCount l n q ≡ size (join rs s e q)) × (put_in l n s e q ≡ filled (join rs s e q) l₀)
+    → (put_count l n q ≡ size (join rs s e q)) × (put_in l n s e q ≡ filled (join rs s e q) l₀)
 unfolding join size
 put-joins none l₀ l n s e q k h g =
     let free : n < length l / 3 = omega arith in

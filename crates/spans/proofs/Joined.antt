@@ -5,7 +5,7 @@ use mathlib.Core.Logic.{⊎_elim, ◌≢◌}
 use native.Mathlib.Omega.{arith}
 use borrow.Author.Tests.{eq-eqb, ne_eqb}
 use Rattle.spans.specs.Rows.{Rows, none, more, size}
-use Rattle.spans.specs.Map.{join, mapOf}
+use Rattle.spans.specs.Map.{join, map_of}
 use Rattle.spans.proofs.Order.{below-or-at, equal-or}
 
 -- the two ways of a join
@@ -33,11 +33,11 @@ size-join (more r s₀ e₀ q₀) s e q =
     ⊎_elim (λ h. simp (eq-eqb q₀ q h) (omega arith)) (λ h. simp (ne_eqb q₀ q h) (omega arith)) (equal-or q₀ q)
 
 -- where f is the same from a to b, its map goes on from a to b by one span
-pub run : (f : ℕ → ℕ) (a b : ℕ) → a ≤ b → ((x : ℕ) → a ≤ x → x ≤ b → f x ≡ f a) → mapOf f (suc b) ≡ join (mapOf f a) a b (f a)
-unfolding mapOf
+pub run : (f : ℕ → ℕ) (a b : ℕ) → a ≤ b → ((x : ℕ) → a ≤ x → x ≤ b → f x ≡ f a) → map_of f (suc b) ≡ join (map_of f a) a b (f a)
+unfolding map_of
 run f a zero h same = let e : a ≡ 0 = omega arith in rw e
 run f a (suc b) h same =
     ⊎_elim
-    (λ l. rw (run f a b (omega arith) (λ x g u. same x g (omega arith)), same (suc b) h (omega arith)) (join-again (mapOf f a) a b (f a) (suc b) (suc b)))
+    (λ l. rw (run f a b (omega arith) (λ x g u. same x g (omega arith)), same (suc b) h (omega arith)) (join-again (map_of f a) a b (f a) (suc b) (suc b)))
     (λ e. rw e)
     (below-or-at a (suc b) h)

@@ -6,8 +6,8 @@ use mathlib.Core.List.{List, [], ◌∷◌, ◌++◌, append-nil}
 use native.Mathlib.Omega.{arith}
 use native.Mathlib.Numerals.{add-one}
 use lib.ListN.{length, length-append, take, drop}
-use Rattle.spans.specs.Rows.{Rows, none, more, flat, size, filled, start, end, rights, rowsIn}
-use Rattle.spans.specs.Map.{IsMap, mapOf}
+use Rattle.spans.specs.Rows.{Rows, none, more, flat, size, filled, start, end, rights, rows_in}
+use Rattle.spans.specs.Map.{IsMap, map_of}
 use Rattle.spans.proofs.Order.{below_or, below-or-at}
 use Rattle.spans.proofs.Unique.{Differs, MapRows, map_rows, unique}
 use Rattle.spans.proofs.Memory.{length-flat, flat-more, row-start, row-end, row-rights, size-rows, flat_rows}
@@ -15,14 +15,14 @@ use Rattle.spans.proofs.Memory.{length-flat, flat-more, row-start, row-end, row-
 -- ---- numbers that have the record are the numbers of the map
 
 module _ {f : ℕ → ℕ} {w n : ℕ} {m : List ℕ} (I : IsMap f w n m) where
-  differs-before : (k : ℕ) → k < n → Differs (rowsIn k m) (rights m k)
-  unfolding rowsIn Differs
+  differs-before : (k : ℕ) → k < n → Differs (rows_in k m) (rights m k)
+  unfolding rows_in Differs
   differs-before zero h = tt
   differs-before (suc k) h = rw add-one at (I.differ k (omega arith))
 
   -- the first k rows are the map below v, which is 0 or the end before plus 1
-  rows_before : (k v : ℕ) → k ≤ n → (k ≡ 0 → v ≡ 0) → ((j : ℕ) → j + 1 ≡ k → end m j + 1 ≡ v) → MapRows f v (rowsIn k m)
-  unfolding rowsIn MapRows
+  rows_before : (k v : ℕ) → k ≤ n → (k ≡ 0 → v ≡ 0) → ((j : ℕ) → j + 1 ≡ k → end m j + 1 ≡ v) → MapRows f v (rows_in k m)
+  unfolding rows_in MapRows
   rows_before zero v h z s = z refl
   rows_before (suc k) v h z s = (
     I.tiles.order k h,
@@ -32,13 +32,13 @@ module _ {f : ℕ → ℕ} {w n : ℕ} {m : List ℕ} (I : IsMap f w n m) where
     rows_before k (start m k) (omega arith) (λ i. rw i (I.tiles.first (omega arith))) (λ j i. rw (← i) (sym (I.tiles.next j (omega arith)))),
   )
 
-  are-rows : rowsIn n m ≡ mapOf f w
+  are-rows : rows_in n m ≡ map_of f w
   are-rows =
       let last : (j : ℕ) → j + 1 ≡ n → end m j + 1 ≡ w = λ j i. let k : n - 1 ≡ j = omega arith in rw k at (I.tiles.last (omega arith)) in
-      unique f f w (rowsIn n m) (mapOf f w) (λ x h. refl) (rows_before n w (omega arith) I.tiles.empty last) (map_rows f w)
+      unique f f w (rows_in n m) (map_of f w) (λ x h. refl) (rows_before n w (omega arith) I.tiles.empty last) (map_rows f w)
 
   -- a map of f has the numbers of the map of f
-  pub is-the-map : (n ≡ size (mapOf f w)) × (take (3 * n) m ≡ flat (mapOf f w))
+  pub is-the-map : (n ≡ size (map_of f w)) × (take (3 * n) m ≡ flat (map_of f w))
   is-the-map = (sym (size-rows n m) ∙ ap size are-rows, sym (flat_rows n m I.tiles.held) ∙ ap flat are-rows)
 
 -- ---- rows that are a map have the record
@@ -88,9 +88,9 @@ has-record f w (more r s e q) rest m =
     (row-start r s e q rest) (row-end r s e q rest) (row-rights r s e q rest) m.0 m.1 m.2 (λ k h. differ-last r (s ∷ e ∷ q ∷ rest) q k m.3 h))
 
 -- the map of f has the record: alone, and over the front of any numbers
-pub map-is-map : (f : ℕ → ℕ) (w : ℕ) → IsMap f w (size (mapOf f w)) (flat (mapOf f w))
-map-is-map f w = rw append-nil at (has-record f w (mapOf f w) [] (map_rows f w))
+pub map-is-map : (f : ℕ → ℕ) (w : ℕ) → IsMap f w (size (map_of f w)) (flat (map_of f w))
+map-is-map f w = rw append-nil at (has-record f w (map_of f w) [] (map_rows f w))
 
-pub map-in-memory : (f : ℕ → ℕ) (w : ℕ) (l : List ℕ) → IsMap f w (size (mapOf f w)) (filled (mapOf f w) l)
+pub map-in-memory : (f : ℕ → ℕ) (w : ℕ) (l : List ℕ) → IsMap f w (size (map_of f w)) (filled (map_of f w) l)
 unfolding filled
-map-in-memory f w l = has-record f w (mapOf f w) (drop (3 * size (mapOf f w)) l) (map_rows f w)
+map-in-memory f w l = has-record f w (map_of f w) (drop (3 * size (map_of f w)) l) (map_rows f w)

@@ -6,7 +6,7 @@ use native.Mathlib.Omega.{arith}
 use native.Mathlib.Numerals.{add-one, add-two, add-three}
 use lib.ListN.{length, length-append, length-drop, get_or, take, drop}
 use lib.Seq.{drop-cons, get_or-append-add, take_at, drop_at, take-add}
-use Rattle.spans.specs.Rows.{Rows, none, more, flat, size, filled, start, end, rights, rowsIn}
+use Rattle.spans.specs.Rows.{Rows, none, more, flat, size, filled, start, end, rights, rows_in}
 
 pub length-flat : (rs : Rows) → length (flat rs) ≡ 3 * size rs
 unfolding flat size
@@ -35,8 +35,8 @@ module _ (rs : Rows) (s e q : ℕ) (rest : List ℕ) where
 
 -- ---- numbers read as rows
 
-pub size-rows : (n : ℕ) (m : List ℕ) → size (rowsIn n m) ≡ n
-unfolding rowsIn size
+pub size-rows : (n : ℕ) (m : List ℕ) → size (rows_in n m) ≡ n
+unfolding rows_in size
 size-rows zero m = refl
 size-rows (suc k) m = ap suc (size-rows k m)
 
@@ -46,14 +46,14 @@ three m i h =
     simp (add-one, add-two, add-three)
     (rw (drop-cons m i 0 (omega arith), drop-cons m (suc i) 0 (omega arith), drop-cons m (suc (suc i)) 0 (omega arith)))
 
-pub rows-flat : (rs : Rows) (rest : List ℕ) → rowsIn (size rs) (flat rs ++ rest) ≡ rs
-unfolding rowsIn size
+pub rows-flat : (rs : Rows) (rest : List ℕ) → rows_in (size rs) (flat rs ++ rest) ≡ rs
+unfolding rows_in size
 rows-flat none rest = refl
 rows-flat (more r s e q) rest =
     rw (flat-more r s e q rest, row-start r s e q rest, row-end r s e q rest, row-rights r s e q rest, rows-flat r (s ∷ e ∷ q ∷ rest))
 
-pub flat_rows : (n : ℕ) (m : List ℕ) → 3 * n ≤ length m → flat (rowsIn n m) ≡ take (3 * n) m
-unfolding rowsIn flat
+pub flat_rows : (n : ℕ) (m : List ℕ) → 3 * n ≤ length m → flat (rows_in n m) ≡ take (3 * n) m
+unfolding rows_in flat
 flat_rows zero m h = refl
 flat_rows (suc k) m h =
     let i : 3 * suc k ≡ 3 * k + 3 = omega arith in

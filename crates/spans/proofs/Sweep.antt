@@ -7,8 +7,8 @@ use native.Mathlib.Omega.{arith}
 use lib.ListN.{length}
 use borrow.Author.Tests.{lt-ltb, le-ltb}
 use Rattle.spans.specs.Rows.{Rows, none, size}
-use Rattle.spans.specs.Map.{join, mapOf}
-use Rattle.spans.specs.Sweep.{next_of, sweepFrom, sweptMap}
+use Rattle.spans.specs.Map.{join, map_of}
+use Rattle.spans.specs.Sweep.{next_of, sweep_from, swept_map}
 use Rattle.spans.proofs.Order.{below_or}
 use Rattle.spans.proofs.Joined.{run, size-join}
 use Rattle.spans.proofs.Steady.{Steady}
@@ -22,11 +22,11 @@ pub record Turn (f : ℕ → ℕ) (bs : List ℕ) (w at to : ℕ) : Type 0 where
   pub fewer : to < w → above bs to < above bs at
 
 -- the map goes on by one span
-pub turned : {f : ℕ → ℕ} {bs : List ℕ} {w at to : ℕ} → Turn f bs w at to → mapOf f to ≡ join (mapOf f at) at (to - 1) (f at)
+pub turned : {f : ℕ → ℕ} {bs : List ℕ} {w at to : ℕ} → Turn f bs w at to → map_of f to ≡ join (map_of f at) at (to - 1) (f at)
 turned {f} {bs} {w} {at} {to} t =
     let l = t.past in
     let e : suc (to - 1) ≡ to = omega arith in
-    subst (λ (k : ℕ). mapOf f k ≡ join (mapOf f at) at (to - 1) (f at)) e
+    subst (λ (k : ℕ). map_of f k ≡ join (map_of f at) at (to - 1) (f at)) e
     (run f at (to - 1) (omega arith) (λ x a b. t.stays x a (omega arith)))
 
 module _ {f : ℕ → ℕ} {bs : List ℕ} (steady : Steady f bs) (w : ℕ) where
@@ -41,8 +41,8 @@ module _ {f : ℕ → ℕ} {bs : List ℕ} (steady : Steady f bs) (w : ℕ) wher
       }
 
   -- enough turns are left: one for each boundary above at, and one
-  sweeps : (turns at : ℕ) (rs : Rows) → at ≤ w → (at < w → above bs at < turns) → rs ≡ mapOf f at → sweepFrom f bs w turns at rs ≡ mapOf f w
-  unfolding sweepFrom
+  sweeps : (turns at : ℕ) (rs : Rows) → at ≤ w → (at < w → above bs at < turns) → rs ≡ map_of f at → sweep_from f bs w turns at rs ≡ map_of f w
+  unfolding sweep_from
   sweeps zero at rs h k e = ⊎_elim (λ l. absurd (omega (arith, k l))) (λ g. let i : at ≡ w = omega arith in rw (← i) e) (below_or at w)
   sweeps (suc turns) at rs h k e =
       let t = next_of bs at w in
@@ -54,12 +54,12 @@ module _ {f : ℕ → ℕ} {bs : List ℕ} (steady : Steady f bs) (w : ℕ) wher
       (below_or at w)
 
   -- a map that is worked out is the map of f
-  pub swept-is-map : sweptMap f bs w ≡ mapOf f w
-  unfolding sweptMap mapOf
+  pub swept-is-map : swept_map f bs w ≡ map_of f w
+  unfolding swept_map map_of
   swept-is-map = sweeps (suc (length bs)) 0 none (omega arith) (λ h. omega (arith, above-le bs 0)) refl
 
-  one-a-turn : (turns at : ℕ) (rs : Rows) → size (sweepFrom f bs w turns at rs) ≤ size rs + turns
-  unfolding sweepFrom
+  one-a-turn : (turns at : ℕ) (rs : Rows) → size (sweep_from f bs w turns at rs) ≤ size rs + turns
+  unfolding sweep_from
   one-a-turn zero at rs = omega arith
   one-a-turn (suc turns) at rs =
       let t = next_of bs at w in
@@ -70,6 +70,6 @@ module _ {f : ℕ → ℕ} {bs : List ℕ} (steady : Steady f bs) (w : ℕ) wher
       (below_or at w)
 
   -- a map has at most one row more than there are boundaries
-  pub rows-most : size (mapOf f w) ≤ length bs + 1
-  unfolding sweptMap size
+  pub rows-most : size (map_of f w) ≤ length bs + 1
+  unfolding swept_map size
   rows-most = rw (← swept-is-map) (omega (arith, one-a-turn (suc (length bs)) 0 none))

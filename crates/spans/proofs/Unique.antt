@@ -5,7 +5,7 @@ use mathlib.Core.Path.{◌≡◌, refl, sym, ap, ◌∙◌, subst}
 use mathlib.Core.Logic.{⊎_elim, ◌≢◌}
 use native.Mathlib.Omega.{arith}
 use Rattle.spans.specs.Rows.{Rows, none, more}
-use Rattle.spans.specs.Map.{join, mapOf}
+use Rattle.spans.specs.Map.{join, map_of}
 use Rattle.spans.proofs.Order.{below_or, below-or-at, equal-or}
 use Rattle.spans.proofs.Joined.{join-same, join-other}
 
@@ -32,10 +32,10 @@ one_more f (more r s e q) w m =
     (λ h. rw (join-other r s e q w w (f w) h) (omega arith, refl, (λ x l u. ap f (omega arith)), h, m))
     (equal-or q (f w))
 
-pub map_rows : (f : ℕ → ℕ) (w : ℕ) → MapRows f w (mapOf f w)
-unfolding mapOf MapRows
+pub map_rows : (f : ℕ → ℕ) (w : ℕ) → MapRows f w (map_of f w)
+unfolding map_of MapRows
 map_rows f zero = refl
-map_rows f (suc w) = one_more f (mapOf f w) w (map_rows f w)
+map_rows f (suc w) = one_more f (map_of f w) w (map_rows f w)
 
 -- ---- there is no other
 

@@ -30,6 +30,6 @@ join none s e q = more none s e q
 join (more rs s₀ e₀ q₀) s e q = cond (eqb q₀ q) (more rs s₀ e q₀) (more (more rs s₀ e₀ q₀) s e q)
 
 -- the map of f below w: every offset in turn as a span of its own, joined to those before it
-unfoldable pub mapOf : (ℕ → ℕ) → ℕ → Rows
-mapOf f zero = none
-mapOf f (suc x) = join (mapOf f x) x x (f x)
+unfoldable pub map_of : (ℕ → ℕ) → ℕ → Rows
+map_of f zero = none
+map_of f (suc x) = join (map_of f x) x x (f x)

@@ -11,8 +11,8 @@ abbrev pub continues : List ℕ → ℕ → ℕ → Bool
 continues l n q = ltb 0 n && eqb (get_or l (3 * n - 1) 0) q
 
 -- how many rows are in use after one more span of the rights q
-unfoldable pub putCount : List ℕ → ℕ → ℕ → ℕ
-putCount l n q = cond (room l n) (cond (continues l n q) n (n + 1)) n
+unfoldable pub put_count : List ℕ → ℕ → ℕ → ℕ
+put_count l n q = cond (room l n) (cond (continues l n q) n (n + 1)) n
 
 -- the numbers after one more span: as before without room; else with the last row's end set to e where it has the rights q; else with a row more
 unfoldable pub put_in : List ℕ → ℕ → ℕ → ℕ → ℕ → List ℕ

@@ -31,9 +31,9 @@ abbrev pub rights : List ℕ → ℕ → ℕ
 rights m k = get_or m (3 * k + 2) 0
 
 -- the first n rows of the numbers m
-unfoldable pub rowsIn : ℕ → List ℕ → Rows
-rowsIn zero m = none
-rowsIn (suc k) m = more (rowsIn k m) (start m k) (end m k) (rights m k)
+unfoldable pub rows_in : ℕ → List ℕ → Rows
+rows_in zero m = none
+rows_in (suc k) m = more (rows_in k m) (start m k) (end m k) (rights m k)
 
 -- whether x is from s to e, both included; never where e is below s
 abbrev pub encloses : ℕ → ℕ → ℕ → Bool

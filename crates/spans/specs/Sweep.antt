@@ -1,5 +1,5 @@
 -- A map worked out from boundaries, which is how code makes one. The function `near` promises `nearer`. The rest is for proofs, and for worked
--- examples, which compute a map by `sweptMap`: it is the map of f where f changes only at boundaries (`swept-is-map` of proofs/Sweep.antt).
+-- examples, which compute a map by `swept_map`: it is the map of f where f changes only at boundaries (`swept-is-map` of proofs/Sweep.antt).
 use Rattle.std.specs.Prelude.{ℕ, zero, suc, ◌+◌, ◌-◌, ◌&&◌, cond, List, [], ◌∷◌, ltb, length}
 use Rattle.spans.specs.Rows.{Rows, none}
 use Rattle.spans.specs.Map.{join}
@@ -14,15 +14,15 @@ next_of [] at w = w
 next_of (b ∷ bs) at w = nearer at b (next_of bs at w)
 
 -- the rows rs, which end before at, with the spans from boundary to boundary behind them, up to w or for the given number of turns
-unfoldable pub sweepFrom : (ℕ → ℕ) → List ℕ → ℕ → ℕ → ℕ → Rows → Rows
-sweepFrom f bs w zero at rs = rs
-sweepFrom f bs w (suc turns) at rs =
-    let on = sweepFrom f bs w turns (next_of bs at w) (join rs at (next_of bs at w - 1) (f at)) in
+unfoldable pub sweep_from : (ℕ → ℕ) → List ℕ → ℕ → ℕ → ℕ → Rows → Rows
+sweep_from f bs w zero at rs = rs
+sweep_from f bs w (suc turns) at rs =
+    let on = sweep_from f bs w turns (next_of bs at w) (join rs at (next_of bs at w - 1) (f at)) in
     cond (ltb at w) on rs
 
 -- the rows of a sweep over the whole window; each turn but the last ends at a boundary, so the turns suffice
-unfoldable pub sweptMap : (ℕ → ℕ) → List ℕ → ℕ → Rows
-sweptMap f bs w = sweepFrom f bs w (suc (length bs)) 0 none
+unfoldable pub swept_map : (ℕ → ℕ) → List ℕ → ℕ → Rows
+swept_map f bs w = sweep_from f bs w (suc (length bs)) 0 none
 
 -- the boundaries of pairs of a start and an end: each start, and each offset past an end
 unfoldable pub bounds_of : List (ℕ × ℕ) → List ℕ

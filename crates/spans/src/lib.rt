@@ -1,8 +1,8 @@
 // Maps of rights in lent memory. A row, or span, is three numbers: start, end, rights.
 ghost use Rattle.std.specs.Prelude.{◌≡◌};
-ghost use Rattle.spans.specs.Lookup.{lookupIn, rowPlace};
+ghost use Rattle.spans.specs.Lookup.{lookup_in, row_place};
 ghost use Rattle.spans.specs.Passed.{Ended, Passed};
-ghost use Rattle.spans.specs.Put.{putCount, put_in};
+ghost use Rattle.spans.specs.Put.{put_count, put_in};
 ghost use Rattle.spans.specs.Sweep.{nearer};
 
 // The numbers of four rows.
@@ -42,7 +42,7 @@ fn end_place(map: &[u64], from: usize, offset: u64) -> usize
 
 // Where in the map the first row whose start and end enclose the offset begins, or the map's length where there is none.
 pub fn row_place(map: &[u64], offset: u64) -> usize
-    ensures { result ≡ rowPlace map.now offset }
+    ensures { result ≡ row_place map.now offset }
 {
     let mut i = end_place(map, 0, offset);
     while i < map.len() {
@@ -56,7 +56,7 @@ pub fn row_place(map: &[u64], offset: u64) -> usize
 
 // The first row whose start and end enclose the offset, as a part of the map, or an empty part.
 pub fn lookup(map: &[u64], offset: u64) -> &[u64]
-    ensures { result.now ≡ lookupIn map.now offset }
+    ensures { result.now ≡ lookup_in map.now offset }
 {
     let i = row_place(map, offset);
     if i < map.len() {
@@ -69,7 +69,7 @@ pub fn lookup(map: &[u64], offset: u64) -> &[u64]
 // One more span behind the first count rows of lent memory, and how many rows there then are. The last row goes on to the span's end
 // where its rights are the same, else the span is a row of its own. Without room for a row more nothing changes.
 pub fn put(lent: &mut [u64], count: usize, start: u64, end: u64, rights: u64) -> usize
-    ensures value { result ≡ putCount lent.old count rights }
+    ensures value { result ≡ put_count lent.old count rights }
     ensures lent_after { lent.new ≡ put_in lent.old count start end rights }
 {
     if lent.len() / 3 <= count {

@@ -3,7 +3,7 @@
 use Rattle.std.proofs.Common.{◌≡◌, ℕ, zero, suc, ◌+◌, ◌-◌, ◌<◌, ◌≤◌, List, length, refl, ap, ◌∙◌, arith, length-drop, le-leb}
 use Rattle.response.specs.Response.{most}
 use Rattle.stream.specs.Blocks.{called, given}
-use Rattle.stream.specs.Kept.{Kept, at_start, lineRoom}
+use Rattle.stream.specs.Kept.{Kept, at_start, line_room}
 use Rattle.stream.specs.declared.blocks.Taken.{Taken}
 use Rattle.stream.specs.declared.kept.Held.{Held}
 use Rattle.stream.proofs.Stops.{part_left}
@@ -14,10 +14,10 @@ module _ (k : Kept) (block out : List ℕ) (at : ℕ) {r : Taken} (e : r ≡ giv
   pub took-most : r.took ≤ length block
   took-most = omega (arith, ap (λ (t : Taken). t.took) e, takes-most k block out at)
 
-  pub left-few : k.held.bytes ≤ lineRoom → r.held.bytes ≤ lineRoom
+  pub left-few : k.held.bytes ≤ line_room → r.held.bytes ≤ line_room
   left-few few = omega (arith, ap (λ (t : Taken). t.held.bytes) e, keeps-few k block out at few)
 
-  module _ (long : length k.memory ≡ lineRoom) (few : k.held.bytes ≤ lineRoom) (room : most ≤ length out) (some : 0 < length block) where
+  module _ (long : length k.memory ≡ line_room) (few : k.held.bytes ≤ line_room) (room : most ≤ length out) (some : 0 < length block) where
     pub some-taken : at ≡ 0 → 0 < r.took
     some-taken z =
         let t = takes-some k block out at some long few (le-leb (at + most) (length out) (omega (arith, room, z))) in
@@ -30,7 +30,7 @@ module _ (k : Kept) (block out : List ℕ) (at : ℕ) {r : Taken} (e : r ≡ giv
         go zero h = omega (arith, h refl, none)
         go (suc n) h = omega arith
 
-pub start-few : {h : Held} → h ≡ at_start → h.bytes ≤ lineRoom
+pub start-few : {h : Held} → h ≡ at_start → h.bytes ≤ line_room
 unfolding at_start
 start-few e = omega (arith, ap (λ (h : Held). h.bytes) e)
 

@@ -3,16 +3,16 @@ use Prim.Native.Char.{code}
 use Rattle.std.proofs.Common.{◌≡◌, ℕ, Bool, true, false, cond, eqb, List, ◌∷◌, refl}
 use Rattle.access.specs.declared.answer.Answer.TheVariants.{Rejected}
 use Rattle.access.specs.declared.answer.Why.TheVariants.{NoSuch, WrongLength}
-use Rattle.print.specs.Print.{answerLine, labelLine}
-use Rattle.risaf.specs.Guards.{isGuard}
+use Rattle.print.specs.Print.{answer_line, label_line}
+use Rattle.risaf.specs.Guards.{is_guard}
 use Rattle.device.specs.Applied.{sized}
 use Rattle.device.specs.Layout.{state_of}
 use Rattle.map.specs.Map.{rows_of}
 use Rattle.script.specs.declared.command.Command.{Command}
 use Rattle.script.specs.declared.command.Command.TheVariants.{Event, Map, Bad}
-use Rattle.response.specs.Response.{answerText, mapText, text_of}
+use Rattle.response.specs.Response.{answer_text, map_text, text_of}
 use Rattle.response.specs.Sheet.{sheet}
-use Rattle.stream.specs.Blocks.{isBad}
+use Rattle.stream.specs.Blocks.{is_bad}
 
 pub record Begins (text : List ℕ) (bad : Bool) : Type 0 where
   pub first : ℕ
@@ -20,17 +20,17 @@ pub record Begins (text : List ℕ) (bad : Bool) : Type 0 where
   pub is : text ≡ first ∷ others
   pub tells : eqb first (code "b") ≡ bad
 
-map-begins : (m : List ℕ) (n : ℕ) → Begins (mapText m n) false
-unfolding mapText answerText answerLine sheet labelLine
-map-begins m n = go (sized m) (isGuard n)
+map-begins : (m : List ℕ) (n : ℕ) → Begins (map_text m n) false
+unfolding map_text answer_text answer_line sheet label_line
+map-begins m n = go (sized m) (is_guard n)
   where
-    go : (s g : Bool) → Begins (cond s (cond g (sheet n (rows_of (state_of m) n)) (answerText (Rejected NoSuch))) (answerText (Rejected WrongLength))) false
+    go : (s g : Bool) → Begins (cond s (cond g (sheet n (rows_of (state_of m) n)) (answer_text (Rejected NoSuch))) (answer_text (Rejected WrongLength))) false
     go true true = record { first = _; others = _; is = refl; tells = refl }
     go true false = record { first = _; others = _; is = refl; tells = refl }
     go false g = record { first = _; others = _; is = refl; tells = refl }
 
-pub begins : (c : Command) (number : ℕ) (m : List ℕ) → Begins (text_of c number m) (isBad c)
-unfolding text_of answerText answerLine labelLine
+pub begins : (c : Command) (number : ℕ) (m : List ℕ) → Begins (text_of c number m) (is_bad c)
+unfolding text_of answer_text answer_line label_line
 begins (Event e) number m = record { first = _; others = _; is = refl; tells = refl }
 begins (Map n) number m = map-begins m n.0
 begins Bad number m = record { first = _; others = _; is = refl; tells = refl }

@@ -2,7 +2,7 @@
 use Rattle.std.specs.Prelude.{ℕ, ◌-◌, List, [], ◌∷◌, ◌++◌, take, drop}
 use Rattle.stream.specs.Blocks.{called}
 use Rattle.stream.specs.Kept.{Kept}
-use Rattle.stream.specs.Transcript.{endText}
+use Rattle.stream.specs.Transcript.{end_text}
 
 -- what a call is given beside what is kept
 pub record Call : Type 0 where
@@ -11,24 +11,24 @@ pub record Call : Type 0 where
   pub at : ℕ
 
 -- what is kept behind a call
-abbrev pub keptAfter : Kept → Call → Kept
-keptAfter k c = (called k c.block c.out c.at).kept
+abbrev pub kept_after : Kept → Call → Kept
+kept_after k c = (called k c.block c.out c.at).kept
 
 -- the bytes that a call takes: the first of its block
-abbrev pub takenBy : Kept → Call → List ℕ
-takenBy k c = take (called k c.block c.out c.at).took c.block
+abbrev pub taken_by : Kept → Call → List ℕ
+taken_by k c = take (called k c.block c.out c.at).took c.block
 
 -- the bytes that a call puts out: those of the memory from the place that it is given up to the one that it gives back
-abbrev pub putBy : Kept → Call → List ℕ
-putBy k c =
+abbrev pub put_by : Kept → Call → List ℕ
+put_by k c =
     let s = called k c.block c.out c.at in
     take (s.at - c.at) (drop c.at s.out)
 
-unfoldable pub allTaken : Kept → List Call → List ℕ
-allTaken k [] = []
-allTaken k (c ∷ cs) = takenBy k c ++ allTaken (keptAfter k c) cs
+unfoldable pub all_taken : Kept → List Call → List ℕ
+all_taken k [] = []
+all_taken k (c ∷ cs) = taken_by k c ++ all_taken (kept_after k c) cs
 
 -- with what the end of the input prints
-unfoldable pub allPut : Kept → List Call → List ℕ
-allPut k [] = endText k.held.bytes k.held.number
-allPut k (c ∷ cs) = putBy k c ++ allPut (keptAfter k c) cs
+unfoldable pub all_put : Kept → List Call → List ℕ
+all_put k [] = end_text k.held.bytes k.held.number
+all_put k (c ∷ cs) = put_by k c ++ all_put (kept_after k c) cs

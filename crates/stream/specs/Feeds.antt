@@ -3,12 +3,12 @@ use Rattle.std.specs.Prelude.{ℕ, suc, ◌+◌, cond, List, [], ◌∷◌, drop
 use Rattle.stream.specs.Transcript.{feed}
 
 -- how many bytes stand before the first feed; all of them where there is none
-unfoldable pub feedAt : List ℕ → ℕ
-feedAt [] = 0
-feedAt (b ∷ bs) =
-    let more = suc (feedAt bs) in
+unfoldable pub feed_at : List ℕ → ℕ
+feed_at [] = 0
+feed_at (b ∷ bs) =
+    let more = suc (feed_at bs) in
     cond (b == feed) 0 more
 
 -- where the line ends that starts at `from`: its feed, or the block's end
-abbrev pub lineEnd : List ℕ → ℕ → ℕ
-lineEnd block from = from + feedAt (drop from block)
+abbrev pub line_end : List ℕ → ℕ → ℕ
+line_end block from = from + feed_at (drop from block)

@@ -3,10 +3,10 @@
 use Prim.Native.Char.{code}
 use Rattle.std.specs.Prelude.{ℕ, suc, cond, List, [], ◌∷◌, ◌++◌, length, ◌==◌}
 use Rattle.device.specs.Layout.{layout}
-use Rattle.device.specs.State.{resetState}
-use Rattle.print.specs.Print.{badLine}
-use Rattle.script.specs.Command.{commandOf}
-use Rattle.response.specs.Response.{leftBy, text_of}
+use Rattle.device.specs.State.{reset_state}
+use Rattle.print.specs.Print.{bad_line}
+use Rattle.script.specs.Command.{command_of}
+use Rattle.response.specs.Response.{left_by, text_of}
 
 abbrev pub feed : ℕ
 feed = code "\n"
@@ -23,10 +23,10 @@ unfoldable pub before : ℕ → Lines → Lines
 before b (line l more) = line (b ∷ l) more
 before b (rest l) = rest (b ∷ l)
 
-unfoldable pub linesIn : List ℕ → Lines
-linesIn [] = rest []
-linesIn (b ∷ bs) =
-    let ls = linesIn bs in
+unfoldable pub lines_in : List ℕ → Lines
+lines_in [] = rest []
+lines_in (b ∷ bs) =
+    let ls = lines_in bs in
     cond (b == feed) (line [] ls) (before b ls)
 
 -- how many there are; what stands behind the last feed is one where anything does
@@ -37,14 +37,14 @@ count (rest l) = cond (length l == 0) 0 1
 -- ---- what they print, the first with that number, on the words m
 
 -- the end of the input, with so many bytes behind the last feed
-unfoldable pub endText : ℕ → ℕ → List ℕ
-endText bytes number = cond (bytes == 0) [] (badLine number)
+unfoldable pub end_text : ℕ → ℕ → List ℕ
+end_text bytes number = cond (bytes == 0) [] (bad_line number)
 
 unfoldable pub printed : ℕ → List ℕ → Lines → List ℕ
-printed number m (line l more) = text_of (commandOf l) number m ++ printed (suc number) (leftBy (commandOf l) m) more
-printed number m (rest l) = endText (length l) number
+printed number m (line l more) = text_of (command_of l) number m ++ printed (suc number) (left_by (command_of l) m) more
+printed number m (rest l) = end_text (length l) number
 
 -- ---- the whole output, from reset
 
 unfoldable pub transcript : List ℕ → List ℕ
-transcript input = printed 1 (layout resetState) (linesIn input)
+transcript input = printed 1 (layout reset_state) (lines_in input)

@@ -1,10 +1,10 @@
 ghost use Rattle.std.specs.Prelude.{◌≡◌, ◌≤◌, true, false, ◌&&◌, length, drop, ◌≢◌};
-ghost use Rattle.script.specs.Command.{commandOf};
-ghost use Rattle.response.specs.Response.{bytesAfter, placeAfter, roomForLongest, stateAfter};
-ghost use Rattle.stream.specs.Blocks.{called, given, isBad, placeAt, stop};
-ghost use Rattle.stream.specs.Kept.{keptOf, lineRoom, nextNumber, nothingOf};
+ghost use Rattle.script.specs.Command.{command_of};
+ghost use Rattle.response.specs.Response.{bytes_after, place_after, room_for_longest, state_after};
+ghost use Rattle.stream.specs.Blocks.{called, given, is_bad, place_at, stop};
+ghost use Rattle.stream.specs.Kept.{kept_of, line_room, next_number, nothing_of};
 ghost use Rattle.stream.specs.Stands.{Stands};
-ghost use Rattle.stream.specs.Transcript.{linesIn};
+ghost use Rattle.stream.specs.Transcript.{lines_in};
 
 use crate::feeds::line_end;
 use crate::kept::{Held, LINE_ROOM, keep};
@@ -31,10 +31,10 @@ struct Ended {
 
 // Obeys a line. Only the text of a bad one starts with a b.
 fn end_line(line: &[u8], number: u64, state: &mut [u32], out: &mut [u8], at: usize) -> Ended
-    ensures place_value { result.place ≡ placeAfter line.now number state.old out.old at }
-    ensures bad_value { result.bad ≡ (roomForLongest out.old at && isBad (commandOf line.now)) }
-    ensures out_after { out.new ≡ bytesAfter line.now number state.old out.old at }
-    ensures state_after { state.new ≡ stateAfter line.now state.old out.old at }
+    ensures place_value { result.place ≡ place_after line.now number state.old out.old at }
+    ensures bad_value { result.bad ≡ (room_for_longest out.old at && is_bad (command_of line.now)) }
+    ensures out_after { out.new ≡ bytes_after line.now number state.old out.old at }
+    ensures state_after { state.new ≡ state_after line.now state.old out.old at }
 {
     let place = respond(line, number, state, out, at);
     if place == at {
@@ -61,7 +61,7 @@ fn stopped(took: usize, filled: usize, bytes: usize, number: u64) -> Taken
 
 // A call that stops behind a bad line.
 fn behind_bad(took: usize, filled: usize, number: u64) -> Taken
-    ensures { result ≡ record { took = took; filled = filled; held = nothingOf (nextNumber number); bad = true; which = number } }
+    ensures { result ≡ record { took = took; filled = filled; held = nothing_of (next_number number); bad = true; which = number } }
 {
     Taken {
         took,
@@ -85,8 +85,8 @@ fn take_lines(
     out: &mut [u8],
     at: usize,
 ) -> Taken
-    requires { (from ≤ length block.now) × (length line.old ≡ lineRoom) }
-    ensures { Stands (stop (placeAt from (keptOf (nothingOf number) line.old state.old) out.old at) (linesIn (drop from block.now))) result state.new line.new out.new }
+    requires { (from ≤ length block.now) × (length line.old ≡ line_room) }
+    ensures { Stands (stop (place_at from (kept_of (nothing_of number) line.old state.old) out.old at) (lines_in (drop from block.now))) result state.new line.new out.new }
 {
     let mut start = from;
     let mut next = number;
@@ -112,7 +112,7 @@ fn take_lines(
 
 // Whether there is room for the longest text.
 fn has_room(out: &[u8], at: usize) -> bool
-    ensures { result ≡ roomForLongest out.now at }
+    ensures { result ≡ room_for_longest out.now at }
 {
     if out.len() < at {
         return false;
@@ -129,8 +129,8 @@ fn take_begun(
     out: &mut [u8],
     at: usize,
 ) -> Taken
-    requires { (held.bytes ≤ lineRoom) × (length line.old ≡ lineRoom) × (held.bytes ≢ 0) }
-    ensures { Stands (stop (placeAt 0 (keptOf held line.old state.old) out.old at) (linesIn block.now)) result state.new line.new out.new }
+    requires { (held.bytes ≤ line_room) × (length line.old ≡ line_room) × (held.bytes ≢ 0) }
+    ensures { Stands (stop (place_at 0 (kept_of held line.old state.old) out.old at) (lines_in block.now)) result state.new line.new out.new }
 {
     let number = held.number;
     let end = line_end(block, 0);
@@ -168,10 +168,10 @@ pub fn take(
     out: &mut [u8],
     at: usize,
 ) -> Taken
-    ensures taken { result ≡ given (called (keptOf held line.old state.old) block.now out.old at) }
-    ensures bytes { out.new ≡ (called (keptOf held line.old state.old) block.now out.old at).out }
-    ensures memory { line.new ≡ (called (keptOf held line.old state.old) block.now out.old at).kept.memory }
-    ensures words { state.new ≡ (called (keptOf held line.old state.old) block.now out.old at).kept.words }
+    ensures taken { result ≡ given (called (kept_of held line.old state.old) block.now out.old at) }
+    ensures bytes { out.new ≡ (called (kept_of held line.old state.old) block.now out.old at).out }
+    ensures memory { line.new ≡ (called (kept_of held line.old state.old) block.now out.old at).kept.memory }
+    ensures words { state.new ≡ (called (kept_of held line.old state.old) block.now out.old at).kept.words }
 {
     if line.len() != LINE_ROOM {
         return stopped(0, at, held.bytes, held.number);

@@ -1,12 +1,12 @@
 ghost use Rattle.std.specs.Prelude.{◌≡◌, ◌+◌, ◌≤◌, length, nat_eq, slice_index};
 ghost use Rattle.access.specs.Fold.{any};
-ghost use Rattle.stream.specs.Feeds.{lineEnd};
+ghost use Rattle.stream.specs.Feeds.{line_end};
 ghost use Rattle.stream.specs.Transcript.{feed};
 
 // Where the line ends that starts at `from`: its line feed, or the block's end; looked for byte by byte.
 fn line_end_near(block: &[u8], from: usize) -> usize
     requires { from ≤ length block.now }
-    ensures { result ≡ lineEnd block.now from }
+    ensures { result ≡ line_end block.now from }
 {
     let mut i = from;
     while i < block.len() {
@@ -36,7 +36,7 @@ fn has_feed(block: &[u8], i: usize) -> bool
 // The same, eight bytes at a time.
 pub(crate) fn line_end(block: &[u8], from: usize) -> usize
     requires { from ≤ length block.now }
-    ensures { result ≡ lineEnd block.now from }
+    ensures { result ≡ line_end block.now from }
 {
     let mut i = from;
     while 8 <= block.len() - i {

@@ -1,9 +1,9 @@
 ghost use Rattle.std.specs.Prelude.{◌≡◌, ◌≤◌, min, length};
-ghost use Rattle.device.specs.Applied.{appliedState};
+ghost use Rattle.device.specs.Applied.{applied_state};
 ghost use Rattle.device.specs.declared.event.Event.TheVariants.{Reset};
-ghost use Rattle.print.specs.Writing.{bytesWith, placeWith};
-ghost use Rattle.stream.specs.Kept.{at_start, keptCount, keptIn, lineRoom};
-ghost use Rattle.stream.specs.Transcript.{endText};
+ghost use Rattle.print.specs.Writing.{bytes_with, place_with};
+ghost use Rattle.stream.specs.Kept.{at_start, kept_count, kept_in, line_room};
+ghost use Rattle.stream.specs.Transcript.{end_text};
 
 use print::print_bad;
 
@@ -20,7 +20,7 @@ pub struct Held {
 // The start: the state reset, and nothing kept of line 1.
 pub fn start(state: &mut [u32]) -> Held
     ensures value { result ≡ at_start }
-    ensures state_after { state.new ≡ appliedState Reset state.old }
+    ensures state_after { state.new ≡ applied_state Reset state.old }
 {
     device::apply_reset(state);
     Held {
@@ -40,9 +40,9 @@ fn fewer(a: usize, b: usize) -> usize
 
 // Puts bytes behind the n that are kept, as many as there is room for. How many are kept then.
 pub(crate) fn keep(line: &mut [u8], n: usize, bytes: &[u8]) -> usize
-    requires { (length line.old ≡ lineRoom) × (n ≤ lineRoom) }
-    ensures value { result ≡ keptCount n bytes.now }
-    ensures line_after { line.new ≡ keptIn line.old n bytes.now }
+    requires { (length line.old ≡ line_room) × (n ≤ line_room) }
+    ensures value { result ≡ kept_count n bytes.now }
+    ensures line_after { line.new ≡ kept_in line.old n bytes.now }
 {
     let count = fewer(LINE_ROOM - n, bytes.len());
     for i in 0..count {
@@ -53,8 +53,8 @@ pub(crate) fn keep(line: &mut [u8], n: usize, bytes: &[u8]) -> usize
 
 // The end of the input: where bytes are kept, a last line without a line feed, which is bad. The place after what it prints.
 pub fn finish(held: Held, out: &mut [u8], at: usize) -> usize
-    ensures place { result ≡ placeWith out.old at (endText held.bytes held.number) }
-    ensures bytes { out.new ≡ bytesWith out.old at (endText held.bytes held.number) }
+    ensures place { result ≡ place_with out.old at (end_text held.bytes held.number) }
+    ensures bytes { out.new ≡ bytes_with out.old at (end_text held.bytes held.number) }
 {
     if held.bytes == 0 {
         return at;

@@ -1,6 +1,6 @@
 ghost use Rattle.std.specs.Prelude.{◌≡◌, ◌+◌, ◌*◌, ◌-◌, ◌≤◌, ◌<◌, min, length};
 ghost use Rattle.response.specs.Response.{most};
-ghost use Rattle.stream.specs.Kept.{lineRoom};
+ghost use Rattle.stream.specs.Kept.{line_room};
 
 use crate::output::flush;
 use libc::STDIN_FILENO;
@@ -33,8 +33,8 @@ fn take_part(
     out: &mut [u8],
     place: Place,
 ) -> Place
-    requires { (length line.old ≡ lineRoom) × (most ≤ length out.old) × (place.held.bytes ≤ lineRoom) × (place.from < length block.now) }
-    ensures { (result.held.bytes ≤ lineRoom) × (result.from ≤ length block.now)
+    requires { (length line.old ≡ line_room) × (most ≤ length out.old) × (place.held.bytes ≤ line_room) × (place.from < length block.now) }
+    ensures { (result.held.bytes ≤ line_room) × (result.from ≤ length block.now)
         × (2 * (length block.now - result.from) + min 1 result.at < 2 * (length block.now - place.from) + min 1 place.at) }
 {
     let from = place.from;
@@ -60,8 +60,8 @@ fn take_part(
 
 // Takes a block, and writes out what is filled.
 fn take_block(state: &mut [u32], block: &[u8], line: &mut [u8], out: &mut [u8], held: Held) -> Going
-    requires { (length line.old ≡ lineRoom) × (most ≤ length out.old) × (held.bytes ≤ lineRoom) }
-    ensures { result.held.bytes ≤ lineRoom }
+    requires { (length line.old ≡ line_room) × (most ≤ length out.old) × (held.bytes ≤ line_room) }
+    ensures { result.held.bytes ≤ line_room }
 {
     let mut place = Place {
         held,
@@ -89,8 +89,8 @@ pub(crate) fn read_block(
     out: &mut [u8],
     held: Held,
 ) -> Going
-    requires { (length line.old ≡ lineRoom) × (most ≤ length out.old) × (held.bytes ≤ lineRoom) }
-    ensures { result.held.bytes ≤ lineRoom }
+    requires { (length line.old ≡ line_room) × (most ≤ length out.old) × (held.bytes ≤ line_room) }
+    ensures { result.held.bytes ≤ line_room }
 {
     let got = libc::read(STDIN_FILENO, block);
     if got < 0 {

@@ -4,7 +4,7 @@ mod output;
 
 ghost use Rattle.std.specs.Prelude.{◌≡◌, ◌≤◌, length};
 ghost use Rattle.response.specs.Response.{most};
-ghost use Rattle.stream.specs.Kept.{lineRoom};
+ghost use Rattle.stream.specs.Kept.{line_room};
 
 use blocks::{Going, read_block};
 use output::flush;
@@ -13,7 +13,7 @@ use stream::LINE_ROOM;
 // Reads and takes block by block until the input ends or the output cannot be written. A proved loop has to end, and nothing says that
 // the input does: so it counts its turns down, from a number that no run uses up.
 fn run(state: &mut [u32], block: &mut [u8], line: &mut [u8], out: &mut [u8])
-    requires { (length line.old ≡ lineRoom) × (most ≤ length out.old) }
+    requires { (length line.old ≡ line_room) × (most ≤ length out.old) }
 {
     let mut going = Going {
         held: stream::start(state),

@@ -7,7 +7,7 @@ use native.Mathlib.Omega.{arith}
 use borrow.Author.Tests.{eqb-true}
 use lib.Dec.{eqb}
 use lib.ListN.{length, get_or, set, take, drop}
-use Rattle.words.specs.Bit.{bit, word, field, masked, merged, withBit}
+use Rattle.words.specs.Bit.{bit, word, field, masked, merged, with_bit}
 use Rattle.words.proofs.Laws.{bit_word, bit-ext, bit-zero, bit-ones, bit-field, bit_masked, word-cong}
 
 -- ---- words of 32 bits
@@ -79,16 +79,16 @@ unfolding merged
 same-merged named mask x y new r =
     same_word mask _ _ (λ j l h. ap (λ (b : Bool). cond (bit named j) (bit new j) b) (r.bits j l h))
 
-pub kept_set : (mask x k : ℕ) → bit mask k ≡ true → Kept mask (withBit 32 x k true) x
-unfolding withBit
+pub kept_set : (mask x k : ℕ) → bit mask k ≡ true → Kept mask (with_bit 32 x k true) x
+unfolding with_bit
 kept_set mask x k named = kept_word mask x _ (λ j l h. go j h (eqb j k) refl)
   where
     go : (j : ℕ) → bit mask j ≡ false → (b : Bool) → eqb j k ≡ b → cond b true (bit x j) ≡ bit x j
     go j h true e = absurd (true≢false (sym (ap (bit mask) (eqb-true j k e) ∙ named) ∙ h))
     go j h false e = refl
 
-pub same_set : (mask x y k : ℕ) → Same mask x y → Same mask (withBit 32 x k true) (withBit 32 y k true)
-unfolding withBit
+pub same_set : (mask x y k : ℕ) → Same mask x y → Same mask (with_bit 32 x k true) (with_bit 32 y k true)
+unfolding with_bit
 same_set mask x y k r = same_word mask _ _ (λ j l h. ap (cond (eqb j k) true) (r.bits j l h))
 
 pub same-masked : (named mask x y : ℕ) → Within named mask → Same mask x y → masked 32 x named ≡ masked 32 y named

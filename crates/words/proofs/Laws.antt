@@ -9,7 +9,7 @@ use lib.Dec.{eqb}
 use lib.Arith.{mod-mul, lt-one}
 use lib.Pow.{pow_pos, pow_mono, pow-lt, high, low, mod-mod-pow, shr-shr, shr_lt, field as shr-of-mod}
 use borrow.Author.Tests.{eq-eqb, ne_eqb}
-use Rattle.words.specs.Bit.{bit, one, word, field, masked, less, merged, united, withBit}
+use Rattle.words.specs.Bit.{bit, one, word, field, masked, less, merged, united, with_bit}
 
 -- ---- the number of a bit
 
@@ -190,10 +190,10 @@ pub united-lt : (n x y : ℕ) → united n x y < 2 ^ n
 unfolding united
 united-lt n x y = word_lt n (λ i. bit x i || bit y i)
 
-pub bit-withBit : (n x k : ℕ) (b : Bool) (i : ℕ) → i < n → bit (withBit n x k b) i ≡ cond (eqb i k) b (bit x i)
-unfolding withBit
-bit-withBit n x k b i h = bit_word n (λ j. cond (eqb j k) b (bit x j)) i h
+pub bit-with_bit : (n x k : ℕ) (b : Bool) (i : ℕ) → i < n → bit (with_bit n x k b) i ≡ cond (eqb i k) b (bit x i)
+unfolding with_bit
+bit-with_bit n x k b i h = bit_word n (λ j. cond (eqb j k) b (bit x j)) i h
 
-pub withBit-lt : (n x k : ℕ) (b : Bool) → withBit n x k b < 2 ^ n
-unfolding withBit
-withBit-lt n x k b = word_lt n (λ i. cond (eqb i k) b (bit x i))
+pub with_bit-lt : (n x k : ℕ) (b : Bool) → with_bit n x k b < 2 ^ n
+unfolding with_bit
+with_bit-lt n x k b = word_lt n (λ i. cond (eqb i k) b (bit x i))

@@ -1,4 +1,4 @@
--- Laws of masked, less, merged, united and withBit.
+-- Laws of masked, less, merged, united and with_bit.
 -- To show that one of these, of others, is a word of bits, state that over n and go bit by bit:
 --     word-ext n _ _ (merged-lt n _ _ _) (λ k h. simp (bit-merged, bit-less, bit_masked))
 use mathlib.Core.Path.{◌≡◌, refl, ap}
@@ -7,10 +7,10 @@ use mathlib.Core.Bool.{and-true, and-false, or-false}
 use Prim.Native.Nat.{ℕ, ◌-◌, ◌^◌, ◌≤◌, ◌<◌}
 use native.Mathlib.Omega.{arith}
 use borrow.Author.Tests.{ne_eqb}
-use Rattle.words.specs.Bit.{bit, word, masked, less, merged, united, withBit}
+use Rattle.words.specs.Bit.{bit, word, masked, less, merged, united, with_bit}
 use Rattle.words.proofs.Laws.{word-cong, bit_word, bit-ext}
-use Rattle.words.proofs.Laws.{bit_masked, bit-withBit}
-use Rattle.words.proofs.Laws.{withBit-lt}
+use Rattle.words.proofs.Laws.{bit_masked, bit-with_bit}
+use Rattle.words.proofs.Laws.{with_bit-lt}
 
 -- ---- choices between bits
 
@@ -53,9 +53,9 @@ united-masked n x y m = united-by n (masked n y m) _ (bit_masked n y m) x
 
 -- ---- one bit
 
-pub withBit-other : (n x k : ℕ) (b : Bool) (i : ℕ) → i < n → (i ≡ k → ⊥) → bit (withBit n x k b) i ≡ bit x i
-withBit-other n x k b i h d = simp (bit-withBit, ne_eqb i k d)
+pub with_bit-other : (n x k : ℕ) (b : Bool) (i : ℕ) → i < n → (i ≡ k → ⊥) → bit (with_bit n x k b) i ≡ bit x i
+with_bit-other n x k b i h d = simp (bit-with_bit, ne_eqb i k d)
 
 -- a place past the width leaves x
-pub withBit-high : (n x k : ℕ) (b : Bool) → x < 2 ^ n → n ≤ k → withBit n x k b ≡ x
-withBit-high n x k b l g = bit-ext n _ _ (withBit-lt n _ _ _) l (λ i h. withBit-other n x k b i h (λ e. omega arith))
+pub with_bit-high : (n x k : ℕ) (b : Bool) → x < 2 ^ n → n ≤ k → with_bit n x k b ≡ x
+with_bit-high n x k b l g = bit-ext n _ _ (with_bit-lt n _ _ _) l (λ i h. with_bit-other n x k b i h (λ e. omega arith))

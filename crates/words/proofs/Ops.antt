@@ -8,7 +8,7 @@ use native.Mathlib.Omega.{arith}
 use lib.Dec.{eqb}
 use lib.Pow.{pow_pos, pow-lt, ones_sub-lt}
 use lib.Bits.{bit_and, bit_or, bit_xor, and_shr, and_mod, or_shr, or_mod, xor_shr, xor_mod, or_lt, and_le_l, and_le_r}
-use Rattle.words.specs.Bit.{bit, field, masked, less, merged, united, withBit}
+use Rattle.words.specs.Bit.{bit, field, masked, less, merged, united, with_bit}
 use Rattle.words.proofs.Laws.{word-ext, word-not, bit_word, bit-pow}
 use Rattle.words.proofs.Masks.{cond-or}
 
@@ -94,14 +94,14 @@ off-bit : (a b : Bool) → (b && not a) ≡ cond a false b
 off-bit true b = simp and-false
 off-bit false b = simp and-true
 
-pub set_is : (n x k : ℕ) → x < 2 ^ n → k < n → bit_or x ((1 * 2 ^ k) % 2 ^ n) ≡ withBit n x k true
-unfolding withBit
+pub set_is : (n x k : ℕ) → x < 2 ^ n → k < n → bit_or x ((1 * 2 ^ k) % 2 ^ n) ≡ with_bit n x k true
+unfolding with_bit
 set_is n x k l g =
     ap (bit_or x) (shl_one n k g)
     ∙ word-ext n (bit_or x (2 ^ k)) _ (or_lt n x (2 ^ k) l (pow-lt g)) (λ i h. simp (bit-or, bit-pow, on_bit))
 
-pub clear-is : (n x k : ℕ) → k < n → bit_and x ((2 ^ n - 1) - (1 * 2 ^ k) % 2 ^ n) ≡ withBit n x k false
-unfolding withBit
+pub clear-is : (n x k : ℕ) → k < n → bit_and x ((2 ^ n - 1) - (1 * 2 ^ k) % 2 ^ n) ≡ with_bit n x k false
+unfolding with_bit
 clear-is n x k g =
     ap (λ (m : ℕ). bit_and x ((2 ^ n - 1) - m)) (shl_one n k g)
     ∙ word-ext n (bit_and x ((2 ^ n - 1) - 2 ^ k)) _ (lt_of_le_of_lt (and_le_r x _) (ones_sub-lt n (2 ^ k)))

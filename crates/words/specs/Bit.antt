@@ -36,5 +36,5 @@ unfoldable pub united : ℕ → ℕ → ℕ → ℕ
 united n x y = word n (λ i. bit x i || bit y i)
 
 -- x, with b as bit k
-unfoldable pub withBit : ℕ → ℕ → ℕ → Bool → ℕ
-withBit n x k b = word n (λ i. cond (eqb i k) b (bit x i))
+unfoldable pub with_bit : ℕ → ℕ → ℕ → Bool → ℕ
+with_bit n x k b = word n (λ i. cond (eqb i k) b (bit x i))

@@ -1,6 +1,6 @@
 -- The words of Bit.antt, computed.
 use Rattle.std.specs.Prelude.{◌≡◌, refl, true, false, ◌^◌, ◌-◌}
-use Rattle.words.specs.Bit.{bit, word, field, masked, less, merged, united, withBit}
+use Rattle.words.specs.Bit.{bit, word, field, masked, less, merged, united, with_bit}
 
 bit-3 : bit 0b1010 3 ≡ true
 bit-3 = refl
@@ -34,15 +34,15 @@ united-32 : united 32 0x1200_0000 0x0034_0001 ≡ 0x1234_0001
 unfolding united
 united-32 = refl
 
-withBit-31 : withBit 32 1 31 true ≡ 0x8000_0001
-unfolding withBit
-withBit-31 = refl
+with_bit-31 : with_bit 32 1 31 true ≡ 0x8000_0001
+unfolding with_bit
+with_bit-31 = refl
 
-withBit-0 : withBit 64 0xffff_ffff_ffff_ffff 0 false ≡ 2 ^ 64 - 2
-unfolding withBit
-withBit-0 = refl
+with_bit-0 : with_bit 64 0xffff_ffff_ffff_ffff 0 false ≡ 2 ^ 64 - 2
+unfolding with_bit
+with_bit-0 = refl
 
 -- a place past the width leaves the word
-withBit-32 : withBit 32 7 32 true ≡ 7
-unfolding withBit
-withBit-32 = refl
+with_bit-32 : with_bit 32 7 32 true ≡ 7
+unfolding with_bit
+with_bit-32 = refl

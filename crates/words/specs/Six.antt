@@ -3,8 +3,8 @@ use Rattle.std.specs.Prelude.{Bool, List, ℕ, ◌/◌, ◌%◌, get_or}
 use Rattle.words.specs.Bit.{bit}
 
 -- how many words
-abbrev pub bitWords : ℕ
-bitWords = 6
+abbrev pub bit_words : ℕ
+bit_words = 6
 
 -- bit i, counted over all the words
 abbrev pub bit_at : List ℕ → ℕ → Bool

@@ -1,6 +1,6 @@
 // The bits of a u32. No function asks anything of its caller.
 ghost use Rattle.std.specs.Prelude.{◌≡◌};
-ghost use Rattle.words.specs.Bit.{bit, field, less, masked, merged, united, withBit};
+ghost use Rattle.words.specs.Bit.{bit, field, less, masked, merged, united, with_bit};
 
 pub mod six;
 
@@ -56,7 +56,7 @@ pub fn united(x: u32, y: u32) -> u32
 
 // x, with b as bit k: a place past the width leaves x.
 pub fn with_bit(x: u32, k: u32, b: bool) -> u32
-    ensures { result ≡ withBit 32 x k b }
+    ensures { result ≡ with_bit 32 x k b }
 {
     if 32 <= k {
         return x;

@@ -3,9 +3,9 @@ use Rattle.std.specs.Prelude.{Bool, true, false, List, [], ◌∷◌, ◌≡◌,
 use Rattle.access.specs.Answer.{number_of, value_of}
 use Rattle.words.specs.Bit.{one}
 use Rattle.spans.specs.Rows.{flat}
-use Rattle.iac.specs.Contents.{withHeld}
-use Rattle.iac.specs.Held.{heldLine, heldCount}
-use Rattle.device.specs.State.{State, withIac, resetState}
+use Rattle.iac.specs.Contents.{with_held}
+use Rattle.iac.specs.Held.{held_line, held_count}
+use Rattle.device.specs.State.{State, with_iac, reset_state}
 use Rattle.device.specs.Step.{step}
 use Rattle.device.specs.declared.event.Block.{Block}
 use Rattle.device.specs.declared.event.Event.{Event}
@@ -30,8 +30,8 @@ writes block offset value secure privileged =
     })
 
 -- at guard n, so many bytes wide
-abbrev pub asksWide : ℕ → ℕ → ℕ → Bool → ℕ → Bool → Bool → Event
-asksWide width n offset write cid secure privileged =
+abbrev pub asks_wide : ℕ → ℕ → ℕ → Bool → ℕ → Bool → Bool → Event
+asks_wide width n offset write cid secure privileged =
     Memory (record {
       guard = record { 0 = n };
       offset = offset;
@@ -41,11 +41,11 @@ asksWide width n offset write cid secure privileged =
 
 -- one byte wide
 abbrev pub asks : ℕ → ℕ → Bool → ℕ → Bool → Bool → Event
-asks = asksWide 1
+asks = asks_wide 1
 
 -- by a master
-abbrev pub masterAsks : ℕ → ℕ → ℕ → ℕ → Bool → Event
-masterAsks width m n offset write =
+abbrev pub master_asks : ℕ → ℕ → ℕ → ℕ → Bool → Event
+master_asks width m n offset write =
     Master (record { master = record { 0 = m }; guard = record { 0 = n }; offset = offset; width = width; write = write })
 
 -- a read at peripheral p
@@ -67,7 +67,7 @@ pub data Line : Type 0 where
 
 -- the state with other words for the line and the count
 abbrev pub holding : ℕ → ℕ → State → State
-holding line count s = withIac s (withHeld s.iac (record { line = line; count = count }))
+holding line count s = with_iac s (with_held s.iac (record { line = line; count = count }))
 
 -- the lines hold one after the other, from a state on
 unfoldable pub Holds : List Line → State → Type 0
@@ -75,10 +75,10 @@ Holds [] s = Unit {0}
 Holds (gives e number value ∷ ls) s =
     (number_of (step e s).answer ≡ number) × (value_of (step e s).answer ≡ value) × Holds ls (step e s).next
 Holds (prints n rows ∷ ls) s = (flat (rows_of s n) ≡ rows) × Holds ls s
-Holds (keeps line count ∷ ls) s = (one (heldLine s.iac) ≡ line) × (heldCount s.iac ≡ count) × Holds ls s
+Holds (keeps line count ∷ ls) s = (one (held_line s.iac) ≡ line) × (held_count s.iac ≡ count) × Holds ls s
 Holds (handed line count ∷ ls) s = Holds ls (holding line count s)
 
 -- each example holds from reset
 unfoldable pub AllHold : List (List Line) → Type 0
 AllHold [] = Unit {0}
-AllHold (x ∷ xs) = Holds x resetState × AllHold xs
+AllHold (x ∷ xs) = Holds x reset_state × AllHold xs

@@ -2,7 +2,7 @@
 use Rattle.std.specs.Prelude.{true, false, List, [], ◌∷◌, ◌++◌, ℕ}
 use Rattle.device.specs.declared.event.Block.{Block}
 use Rattle.device.specs.declared.event.Block.TheVariants.{Rifsc, Iac, Risaf}
-use Rattle.worked.specs.Example.{Line, gives, prints, keeps, handed, reads, writes, asks, asksWide, masterAsks}
+use Rattle.worked.specs.Example.{Line, gives, prints, keeps, handed, reads, writes, asks, asks_wide, master_asks}
 
 abbrev pub guard2 : Block
 guard2 = Risaf (record { 0 = 2 })
@@ -18,12 +18,12 @@ guard21 = Risaf (record { 0 = 21 })
 
 -- guard 2, offset 0, read, CID 1 secure privileged: 0, rule 0
 abbrev pub w1 : ℕ → List Line
-w1 width = gives (asksWide width 2 0 false 1 true true) 0 0 ∷ []
+w1 width = gives (asks_wide width 2 0 false 1 true true) 0 0 ∷ []
 
 -- CID 2: 1, for the compartment; ISR4 00001000, IAESR 00000032
 abbrev pub w2 : ℕ → List Line
 w2 width =
-    gives (asksWide width 2 0 false 2 true true) 1 3
+    gives (asks_wide width 2 0 false 2 true true) 1 3
     ∷ gives (reads Iac 0x090 true true) 0 0x0000_1000
     ∷ gives (reads guard2 0x020 true true) 0 0x0000_0032
     ∷ []
@@ -32,13 +32,13 @@ w2 width =
 abbrev pub w3 : ℕ → List Line
 w3 width =
     w2 width
-    ++ gives (asksWide width 2 0x40 true 3 false true) 1 1
+    ++ gives (asks_wide width 2 0x40 true 3 false true) 1 1
     ∷ gives (reads guard2 0x020 true true) 0 0x0000_0032
     ∷ []
 
 -- CID 7 secure privileged granted; CID 7 nonsecure refused, for security
 abbrev pub w4 : ℕ → List Line
-w4 width = gives (asksWide width 2 0 false 7 true true) 0 0 ∷ gives (asksWide width 2 0 false 7 false true) 1 1 ∷ []
+w4 width = gives (asks_wide width 2 0 false 7 true true) 0 0 ∷ gives (asks_wide width 2 0 false 7 false true) 1 1 ∷ []
 
 -- ATTR1 write 00000370 reads 00000300
 abbrev pub w5 : List Line
@@ -131,24 +131,24 @@ w14 =
     ∷ []
 
 -- Q-2 names no width either. Master 6, ATTR6 written 00000310, reading guard 2 at 0 with SEC 60 clear (1, for security); IAESR says nonsecure
-abbrev pub q2Clear : ℕ → List Line
-q2Clear width =
+abbrev pub q2_clear : ℕ → List Line
+q2_clear width =
     gives (writes Rifsc 0xc28 0x0000_0310 true true) 0 0
-    ∷ gives (masterAsks width 6 2 0 false) 1 1
+    ∷ gives (master_asks width 6 2 0 false) 1 1
     ∷ gives (reads guard2 0x020 true true) 0 0x0000_0011
     ∷ []
 
 -- and set (0): bit 28 of SECCFGR1
-abbrev pub q2Set : ℕ → List Line
-q2Set width =
+abbrev pub q2_set : ℕ → List Line
+q2_set width =
     gives (writes Rifsc 0xc28 0x0000_0310 true true) 0 0
     ∷ gives (writes Rifsc 0x014 0x1000_0000 true true) 0 0
-    ∷ gives (masterAsks width 6 2 0 false) 0 0
+    ∷ gives (master_asks width 6 2 0 false) 0 0
     ∷ []
 
 -- Q-4. Flag 140 is guard 2's, bit 12 of ISR4: IER4 is at 010, ICR4 at 110. Enabled, then raised as in W2, raised again, and cleared
-abbrev pub q4Kept : List Line
-q4Kept =
+abbrev pub q4_kept : List Line
+q4_kept =
     gives (writes Iac 0x010 0x0000_1000 true true) 0 0
     ∷ keeps 0 0
     ∷ gives (asks 2 0 false 2 true true) 1 3
@@ -160,8 +160,8 @@ q4Kept =
     ∷ []
 
 -- handed in with the line up and the count 0: a read leaves both, and a flag raised that is not enabled lets the line down
-abbrev pub q4Handed : List Line
-q4Handed =
+abbrev pub q4_handed : List Line
+q4_handed =
     handed 1 0
     ∷ gives (reads Iac 0x010 true true) 0 0
     ∷ keeps 1 0
@@ -171,8 +171,8 @@ q4Handed =
 
 -- handed in with the line down and the count 255: an enable changed holds the line up, one flag more makes the count 0, modulo 256, and one
 -- less 255 again
-abbrev pub q4Modulo : List Line
-q4Modulo =
+abbrev pub q4_modulo : List Line
+q4_modulo =
     handed 0 255
     ∷ gives (writes Iac 0x010 0x0000_1000 true true) 0 0
     ∷ keeps 1 255
@@ -183,13 +183,13 @@ q4Modulo =
     ∷ []
 
 -- Q-6: the untouched row of guard 15
-abbrev pub q6Untouched : List Line
-q6Untouched = prints 15 (0x000 ∷ 0xfff ∷ 0xffff_0000_0000_0000 ∷ []) ∷ []
+abbrev pub q6_untouched : List Line
+q6_untouched = prints 15 (0x000 ∷ 0xfff ∷ 0xffff_0000_0000_0000 ∷ []) ∷ []
 
 -- CID 5 counts as CID 0, which may read guard 15's region 1: granted by rule 1. Its write is refused, for the direction, and IAESR has CID 0;
 -- so is CID 7's, which is no debugger there; CID 8 gets 4
-abbrev pub q6Counted : List Line
-q6Counted =
+abbrev pub q6_counted : List Line
+q6_counted =
     gives (writes guard15 0x048 0x0000_0fff true true) 0 0
     ∷ gives (writes guard15 0x04c 0x0000_0001 true true) 0 0
     ∷ gives (writes guard15 0x040 0x0000_0001 true true) 0 0
@@ -201,12 +201,12 @@ q6Counted =
     ∷ []
 
 -- the flag of a guard: ISR4 after a refused access to it
-abbrev pub q6Flag : ℕ → ℕ → List Line
-q6Flag n isr4 = gives (asks n 0 false 1 false true) 1 1 ∷ gives (reads Iac 0x090 true true) 0 isr4 ∷ []
+abbrev pub q6_flag : ℕ → ℕ → List Line
+q6_flag n isr4 = gives (asks n 0 false 1 false true) 1 1 ∷ gives (reads Iac 0x090 true true) 0 isr4 ∷ []
 
 -- START and END at granule 4, and at 512
-abbrev pub q6Granules : List Line
-q6Granules =
+abbrev pub q6_granules : List Line
+q6_granules =
     gives (writes guard15 0x044 0x0000_0013 true true) 0 0
     ∷ gives (reads guard15 0x044 true true) 0 0x0000_0010
     ∷ gives (writes guard15 0x048 0x0000_0010 true true) 0 0
@@ -218,8 +218,8 @@ q6Granules =
     ∷ []
 
 -- a nonsecure write to A's START with DCEN 1: taken where DCCID is 0, refused where it is 1
-abbrev pub q6Delegated : List Line
-q6Delegated =
+abbrev pub q6_delegated : List Line
+q6_delegated =
     gives (writes guard15 0x05c 0x0000_0004 true true) 0 0
     ∷ gives (writes guard15 0x054 0x0000_0010 false true) 0 0
     ∷ gives (writes guard15 0x05c 0x0000_0014 true true) 0 0
@@ -235,10 +235,10 @@ worked =
     -- W1 to W4, width 4
     ∷ w1 4 ∷ w2 4 ∷ w3 4 ∷ w4 4
     -- Q-2
-    ∷ q2Clear 1 ∷ q2Set 1 ∷ q2Clear 2 ∷ q2Set 2 ∷ q2Clear 4 ∷ q2Set 4
+    ∷ q2_clear 1 ∷ q2_set 1 ∷ q2_clear 2 ∷ q2_set 2 ∷ q2_clear 4 ∷ q2_set 4
     -- Q-4
-    ∷ q4Kept ∷ q4Handed ∷ q4Modulo
+    ∷ q4_kept ∷ q4_handed ∷ q4_modulo
     -- Q-6
-    ∷ q6Untouched ∷ q6Counted ∷ q6Flag 15 0x0200_0000 ∷ q6Flag 21 0x0800_0000 ∷ q6Flag 22 0x1000_0000 ∷ q6Flag 23 0x2000_0000
-    ∷ q6Granules ∷ q6Delegated
+    ∷ q6_untouched ∷ q6_counted ∷ q6_flag 15 0x0200_0000 ∷ q6_flag 21 0x0800_0000 ∷ q6_flag 22 0x1000_0000 ∷ q6_flag 23 0x2000_0000
+    ∷ q6_granules ∷ q6_delegated
     ∷ []

@@ -4,8 +4,8 @@ use Rattle.worked.specs.Example.{Line, gives, reads, writes, asks, uses}
 use Rattle.worked.specs.Examples.{guard2, region1, w3}
 
 -- "SEC 0 on a base region admitting secure access too (true of peripherals only)": region 1 of W11, and peripheral 0
-abbrev pub secureToo : List Line
-secureToo =
+abbrev pub secure_too : List Line
+secure_too =
     region1
     ++ gives (asks 2 0x1_0000 false 2 false true) 0 1
     ∷ gives (asks 2 0x1_0000 false 2 true true) 1 1
@@ -14,8 +14,8 @@ secureToo =
     ∷ []
 
 -- "GLOCK stopping a delegated subregion write": DCEN 1, DCCID 1, then GLOCK; START of the base region is locked, that of A is not
-abbrev pub glockStops : List Line
-glockStops =
+abbrev pub glock_stops : List Line
+glock_stops =
     gives (writes guard2 0x05c 0x0000_0014 true true) 0 0
     ∷ gives (writes guard2 0x000 0x0000_0001 true true) 0 0
     ∷ gives (writes guard2 0x044 0x0001_0000 true true) 2 0
@@ -24,12 +24,12 @@ glockStops =
     ∷ []
 
 -- "a later fault overwriting IAESR": W3, whose second fault is at 40; IADDR stays too
-abbrev pub faultOverwrites : List Line
-faultOverwrites = w3 1 ++ gives (reads guard2 0x024 true true) 0 0x0000_0000 ∷ []
+abbrev pub fault_overwrites : List Line
+fault_overwrites = w3 1 ++ gives (reads guard2 0x024 true true) 0 0x0000_0000 ∷ []
 
 -- "letting a subregion govern outside its base": region 1 of W11, and A of W12 at 30000 to 30FFF, where rule 0 governs
-abbrev pub outsideBase : List Line
-outsideBase =
+abbrev pub outside_base : List Line
+outside_base =
     region1
     ++ gives (writes guard2 0x054 0x0003_0000 true true) 0 0
     ∷ gives (writes guard2 0x058 0x0003_0fff true true) 0 0
@@ -41,13 +41,13 @@ outsideBase =
 -- ---- readings of Q-5's "Each test is made over all governing regions before the next begins, and the first that fails is the reason"
 
 -- the compartment before the privilege, or the privilege before the security, by rule 0: CID 2 unprivileged, secure and not
-abbrev pub otherOrder : List Line
-otherOrder = gives (asks 2 0 false 2 true false) 1 2 ∷ gives (asks 2 0 false 2 false false) 1 1 ∷ []
+abbrev pub other_order : List Line
+other_order = gives (asks 2 0 false 2 true false) 1 2 ∷ gives (asks 2 0 false 2 false false) 1 1 ∷ []
 
 -- one region's tests before the next region's: region 1 of W11 with PRIVC2 set, which an unprivileged CID 2 fails, and over the same
 -- offsets region 2, at 080, with SEC set, which it fails nonsecure
-abbrev pub regionFirst : List Line
-regionFirst =
+abbrev pub region_first : List Line
+region_first =
     region1
     ++ gives (writes guard2 0x040 0x0004_0001 true true) 0 0
     ∷ gives (asks 2 0x1_0000 false 2 false false) 1 2
@@ -58,4 +58,4 @@ regionFirst =
     ∷ []
 
 unfoldable pub readings : List (List Line)
-readings = secureToo ∷ glockStops ∷ faultOverwrites ∷ outsideBase ∷ otherOrder ∷ regionFirst ∷ []
+readings = secure_too ∷ glock_stops ∷ fault_overwrites ∷ outside_base ∷ other_order ∷ region_first ∷ []

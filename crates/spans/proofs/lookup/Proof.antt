@@ -5,7 +5,7 @@ use native.Mathlib.Omega.{arith}
 use native.Mathlib.Nat.{add-sub_cancel_left}
 use lib.ListN.{length, drop_of_length-le}
 use borrow.Author.Rules.{rules}
-use Rattle.spans.specs.Lookup.{rowPlace}
+use Rattle.spans.specs.Lookup.{row_place}
 use Rattle.spans.proofs.Found.{at_place, whole_row}
 use Rattle.spans.proofs.lookup.Statement.{statement}
 use Rattle.spans.proofs.lookup.Tie as tie
@@ -27,7 +27,7 @@ returns-2 : tie.Need-returns-2
 returns-2 c =
     let p = c.before.before in
     let a = p.before.before.args in
-    let n : length a.map.now ≤ rowPlace a.map.now a.offset = omega arith in
+    let n : length a.map.now ≤ row_place a.map.now a.offset = omega arith in
     sym (at_place a.map.now a.offset ∙ rw (drop_of_length-le a.map.now n))
 
 pub lookup-spec : {M : Type 1} → statement M

@@ -61,7 +61,7 @@ use Rattle.batch.specs.contracts.batches.Batched as R
 use Rattle.batch.proofs.batches.Batched.TheLaws as R'
 use Rattle.device.specs.Applied.{sized}
 use Rattle.batch.specs.Batch.{fits as batch-fits}
-use Rattle.device.specs.Layout.{stateWords}
+use Rattle.device.specs.Layout.{state_words}
 use Rattle.device.specs.declared.event.MemoryAccess.{MemoryAccess}
 use Rattle.device.specs.contracts.event.MemoryAccess as T
 use Rattle.device.proofs.event.MemoryAccess.TheLaws as T'
@@ -85,26 +85,26 @@ abbrev word : Ty
 word = ty_int w64
 
 -- the types of the locals: state, list, answers, and a slice that is lent for a call, as its pointer and with its count
-abbrev tS : Ty
-tS = slice_ty (ty_ref (named 0) mut (ty_int w32))
+abbrev t_s : Ty
+t_s = slice_ty (ty_ref (named 0) mut (ty_int w32))
 
-abbrev tL : Ty
-tL = slice_ty (ty_ref (named 1) imm (pointee (T.the_row).written))
+abbrev t_l : Ty
+t_l = slice_ty (ty_ref (named 1) imm (pointee (T.the_row).written))
 
-abbrev tA : Ty
-tA = slice_ty (ty_ref (named 2) mut word)
+abbrev t_a : Ty
+t_a = slice_ty (ty_ref (named 2) mut word)
 
-abbrev tR32 : Ty
-tR32 = ty_ref erased mut (ty_int w32)
+abbrev t_r32 : Ty
+t_r32 = ty_ref erased mut (ty_int w32)
 
-abbrev tE32 : Ty
-tE32 = slice_ty tR32
+abbrev t_e32 : Ty
+t_e32 = slice_ty t_r32
 
-abbrev tR64 : Ty
-tR64 = ty_ref erased mut word
+abbrev t_r64 : Ty
+t_r64 = ty_ref erased mut word
 
-abbrev tE64 : Ty
-tE64 = slice_ty tR64
+abbrev t_e64 : Ty
+t_e64 = slice_ty t_r64
 
 abbrev stayed : Stays (batch.ended).signature.params (batch.ended).kept
 stayed = (stay_slice (0 ∷ []) tt (plain (λ _. u32)), (stay_none_slice (1 ∷ []) tt (plain (λ _. T.the_row)) yes, (stay_slice (2 ∷ []) tt (plain (λ _. u64)), tt)))
@@ -138,14 +138,14 @@ module _ {M : Type 1} {𝓤 : Ura M} (𝓛 : Logic 𝓤) (mem : Memory → SProp
   n = length ys
 
   -- state and answers under a name, at a list; the list of accesses; and their machine values
-  abbrev rS : GName → List ℕ → MutBor (List ℕ)
-  rS δ l = record { ref_ptr = (b₁, o₁); ghost_name = δ; now = l }
+  abbrev r_s : GName → List ℕ → MutBor (List ℕ)
+  r_s δ l = record { ref_ptr = (b₁, o₁); ghost_name = δ; now = l }
 
-  abbrev rA : GName → List ℕ → MutBor (List ℕ)
-  rA δ l = record { ref_ptr = (b₃, o₃); ghost_name = δ; now = l }
+  abbrev r_a : GName → List ℕ → MutBor (List ℕ)
+  r_a δ l = record { ref_ptr = (b₃, o₃); ghost_name = δ; now = l }
 
-  abbrev rL : Bor (List MemoryAccess)
-  rL = record { ref_ptr = (b₂, o₂); ghost_name = γ₂; now = ys }
+  abbrev r_l : Bor (List MemoryAccess)
+  r_l = record { ref_ptr = (b₂, o₂); ghost_name = γ₂; now = ys }
 
   abbrev s₁ : ℕ → Val
   s₁ N = slice_val (b₁, o₁) N
@@ -166,7 +166,7 @@ module _ {M : Type 1} {𝓤 : Ura M} (𝓛 : Logic 𝓤) (mem : Memory → SProp
   Arg = Bor (List ℕ) × (Bor (List MemoryAccess) × (Bor (List ℕ) × Unit {0}))
 
   abbrev a : Arg
-  a = (rS γ₁ st₀, (rL, (rA γ₃ an₀, tt)))
+  a = (r_s γ₁ st₀, (r_l, (r_a γ₃ an₀, tt)))
 
   abbrev vals : List Val × (List Val × (List Val × Unit {0}))
   vals = (s₁ (length st₀) ∷ [], (s₂ ∷ [], (s₃ (length an₀) ∷ [], tt)))
@@ -179,13 +179,13 @@ module _ {M : Type 1} {𝓤 : Ura M} (𝓛 : Logic 𝓤) (mem : Memory → SProp
 
   -- what the three parameters own, the two `&mut` at a list
   abbrev OwnS : ℕ → List ℕ → Fml
-  OwnS N st = (MutSlice (named 0) κ₁ u32).own_val (rS γ₁ st) (s₁ N ∷ [])
+  OwnS N st = (MutSlice (named 0) κ₁ u32).own_val (r_s γ₁ st) (s₁ N ∷ [])
 
   abbrev OwnA : ℕ → List ℕ → Fml
-  OwnA N an = (MutSlice (named 2) κ₃ u64).own_val (rA γ₃ an) (s₃ N ∷ [])
+  OwnA N an = (MutSlice (named 2) κ₃ u64).own_val (r_a γ₃ an) (s₃ N ∷ [])
 
   abbrev OwnL : Fml
-  OwnL = (ShrSlice (named 1) κ₂ T.the_row).own_val rL (s₂ ∷ [])
+  OwnL = (ShrSlice (named 1) κ₂ T.the_row).own_val r_l (s₂ ∷ [])
 
   -- the fractured borrow in the last: what a turn looks into
   abbrev Looks : Fml
@@ -209,17 +209,17 @@ module _ {M : Type 1} {𝓤 : Ura M} (𝓛 : Logic 𝓤) (mem : Memory → SProp
       (ν₁ ∷ [], (ν₃ ∷ [], tt)),
       (full_share, (full_share, tt)),
       tt,
-      (rS δ₁ st, (rA δ₃ an, (i, (elem i, tt)))),
+      (r_s δ₁ st, (r_a δ₃ an, (i, (elem i, tt)))),
       (s₁ (length st) ∷ [], (s₃ (length an) ∷ [], (vint w64 i ∷ [], (mach (elem i) ∷ [], tt)))),
     ),
     tt,
   )
 
-  goes : (ν₁ ν₃ : ℕ) (δ₁ δ₃ : GName) (st an : List ℕ) (i : ℕ) → (length st ≡ stateWords) × (i < length an) → i < 2 ^ 64 → Is T.the_row (elem i) (mach (elem i) ∷ [])
-      → ent 𝓤 (sep 𝓤 (sep 𝓤 (A.lft (ν₁ ∷ []) full_share) (A.lft (ν₃ ∷ []) full_share)) (sep 𝓤 (sem 𝓛 ((MutSlice (named 0) (ν₁ ∷ []) u32).own_val (rS δ₁ st) (s₁ (length st) ∷ []))) (sem 𝓛 ((MutSlice (named 1) (ν₃ ∷ []) u64).own_val (rA δ₃ an) (s₃ (length an) ∷ [])))))
+  goes : (ν₁ ν₃ : ℕ) (δ₁ δ₃ : GName) (st an : List ℕ) (i : ℕ) → (length st ≡ state_words) × (i < length an) → i < 2 ^ 64 → Is T.the_row (elem i) (mach (elem i) ∷ [])
+      → ent 𝓤 (sep 𝓤 (sep 𝓤 (A.lft (ν₁ ∷ []) full_share) (A.lft (ν₃ ∷ []) full_share)) (sep 𝓤 (sem 𝓛 ((MutSlice (named 0) (ν₁ ∷ []) u32).own_val (r_s δ₁ st) (s₁ (length st) ∷ []))) (sem 𝓛 ((MutSlice (named 1) (ν₃ ∷ []) u64).own_val (r_a δ₃ an) (s₃ (length an) ∷ [])))))
       ((One 𝓛 mem run).pre (to_one ν₁ ν₃ δ₁ δ₃ st an i))
   goes ν₁ ν₃ δ₁ δ₃ st an i asked i-fits is =
-      qed 𝓛 ((‵ (flft (ν₁ ∷ []) full_share) ⊛ ‵ (flft (ν₃ ∷ []) full_share)) ∷ ‵ ((MutSlice (named 0) (ν₁ ∷ []) u32).own_val (rS δ₁ st) (s₁ (length st) ∷ [])) ∷ ‵ ((MutSlice (named 1) (ν₃ ∷ []) u64).own_val (rA δ₃ an) (s₃ (length an) ∷ [])) ∷ []) ∵
+      qed 𝓛 ((‵ (flft (ν₁ ∷ []) full_share) ⊛ ‵ (flft (ν₃ ∷ []) full_share)) ∷ ‵ ((MutSlice (named 0) (ν₁ ∷ []) u32).own_val (r_s δ₁ st) (s₁ (length st) ∷ [])) ∷ ‵ ((MutSlice (named 1) (ν₃ ∷ []) u64).own_val (r_a δ₃ an) (s₃ (length an) ∷ [])) ∷ []) ∵
       says ! asked $ split ! $ nothing ! $ move ! (2 ∷ 0 ∷ []) $ join ! $ move ! (1 ∷ 0 ∷ []) $ join ! $ frame ! $
       nothing ! $ owned ! T.the_row (Is T.the_row) (SL.makes T.the_type T'.the_plain 𝓛) (elem i) _ is $ fjoin ! $ owned ! usize (Is usize) (uint_Makes 𝓛 w64) i _ (refl, i-fits) $ fjoin ! $
       move ! (2 ∷ 0 ∷ []) $ fjoin ! $ move ! (1 ∷ 0 ∷ []) $ fjoin ! $ done !
@@ -239,23 +239,23 @@ module _ {M : Type 1} {𝓤 : Ura M} (𝓛 : Logic 𝓤) (mem : Memory → SProp
     lifetimes = 3;
     outlives = [];
     params = 3;
-    locals = local τ₀ value_local ∷ local tS value_local ∷ local tL value_local ∷ local tA value_local ∷ local word value_local ∷ local word value_local ∷ local ty_bool value_local ∷ local word value_local ∷ local word value_local ∷ local ty_bool value_local ∷ local ty_bool value_local ∷ local ty_unit value_local ∷ local tR32 value_local ∷ local tE32 value_local ∷ local tR64 value_local ∷ local tE64 value_local ∷ local word value_local ∷ local ty_ptr value_local ∷ local τ₁₈ value_local ∷ [];
+    locals = local τ₀ value_local ∷ local t_s value_local ∷ local t_l value_local ∷ local t_a value_local ∷ local word value_local ∷ local word value_local ∷ local ty_bool value_local ∷ local word value_local ∷ local word value_local ∷ local ty_bool value_local ∷ local ty_bool value_local ∷ local ty_unit value_local ∷ local t_r32 value_local ∷ local t_e32 value_local ∷ local t_r64 value_local ∷ local t_e64 value_local ∷ local word value_local ∷ local ty_ptr value_local ∷ local τ₁₈ value_local ∷ [];
     body = b;
   }
 
   module _ (τ₀ τ₁₈ : Ty) (l₀ l₁ l₂ l₃ l₄ l₅ l₆ l₇ l₈ l₉ l₁₀ l₁₁ l₁₂ l₁₃ l₁₄ l₁₅ l₁₆ l₁₇ l₁₈ : ℕ) where
     abbrev Envs : Env 𝓤 H
-    Envs = (τ₀, l₀) ∷ (tS, l₁) ∷ (tL, l₂) ∷ (tA, l₃) ∷ (word, l₄) ∷ (word, l₅) ∷ (ty_bool, l₆) ∷ (word, l₇) ∷ (word, l₈) ∷ (ty_bool, l₉) ∷ (ty_bool, l₁₀) ∷ (ty_unit, l₁₁) ∷ (tR32, l₁₂) ∷ (tE32, l₁₃) ∷ (tR64, l₁₄) ∷ (tE64, l₁₅) ∷ (word, l₁₆) ∷ (ty_ptr, l₁₇) ∷ (τ₁₈, l₁₈) ∷ []
+    Envs = (τ₀, l₀) ∷ (t_s, l₁) ∷ (t_l, l₂) ∷ (t_a, l₃) ∷ (word, l₄) ∷ (word, l₅) ∷ (ty_bool, l₆) ∷ (word, l₇) ∷ (word, l₈) ∷ (ty_bool, l₉) ∷ (ty_bool, l₁₀) ∷ (ty_unit, l₁₁) ∷ (t_r32, l₁₂) ∷ (t_e32, l₁₃) ∷ (t_r64, l₁₄) ∷ (t_e64, l₁₅) ∷ (word, l₁₆) ∷ (ty_ptr, l₁₇) ∷ (τ₁₈, l₁₈) ∷ []
 
     -- the locals, and what frees each: the parameters, n, i and what `fits` gave hold what is said, and the others nothing
     abbrev Held : (x₁ x₂ x₃ x₄ x₅ x₆ : Item 𝓤) → List (Item 𝓤) → List (Item 𝓤)
     Held x₁ x₂ x₃ x₄ x₅ x₆ Γ = ‵ (froom τ₁₈ l₁₈ 0) ∷ ‵ (fdies τ₁₈ l₁₈)
         ∷ ‵ (froom ty_ptr l₁₇ 0) ∷ ‵ (fdies ty_ptr l₁₇)
         ∷ ‵ (froom word l₁₆ 0) ∷ ‵ (fdies word l₁₆)
-        ∷ ‵ (froom tE64 l₁₅ 0) ∷ ‵ (fdies tE64 l₁₅)
-        ∷ ‵ (froom tR64 l₁₄ 0) ∷ ‵ (fdies tR64 l₁₄)
-        ∷ ‵ (froom tE32 l₁₃ 0) ∷ ‵ (fdies tE32 l₁₃)
-        ∷ ‵ (froom tR32 l₁₂ 0) ∷ ‵ (fdies tR32 l₁₂)
+        ∷ ‵ (froom t_e64 l₁₅ 0) ∷ ‵ (fdies t_e64 l₁₅)
+        ∷ ‵ (froom t_r64 l₁₄ 0) ∷ ‵ (fdies t_r64 l₁₄)
+        ∷ ‵ (froom t_e32 l₁₃ 0) ∷ ‵ (fdies t_e32 l₁₃)
+        ∷ ‵ (froom t_r32 l₁₂ 0) ∷ ‵ (fdies t_r32 l₁₂)
         ∷ ‵ (froom ty_unit l₁₁ 0) ∷ ‵ (fdies ty_unit l₁₁)
         ∷ ‵ (froom ty_bool l₁₀ 0) ∷ ‵ (fdies ty_bool l₁₀)
         ∷ ‵ (froom ty_bool l₉ 0) ∷ ‵ (fdies ty_bool l₉)
@@ -264,15 +264,15 @@ module _ {M : Type 1} {𝓤 : Ura M} (𝓛 : Logic 𝓤) (mem : Memory → SProp
         ∷ x₆ ∷ ‵ (fdies ty_bool l₆)
         ∷ x₅ ∷ ‵ (fdies word l₅)
         ∷ x₄ ∷ ‵ (fdies word l₄)
-        ∷ x₃ ∷ ‵ (fdies tA l₃)
-        ∷ x₂ ∷ ‵ (fdies tL l₂)
-        ∷ x₁ ∷ ‵ (fdies tS l₁)
+        ∷ x₃ ∷ ‵ (fdies t_a l₃)
+        ∷ x₂ ∷ ‵ (fdies t_l l₂)
+        ∷ x₁ ∷ ‵ (fdies t_s l₁)
         ∷ ‵ (froom τ₀ l₀ 0) ∷ ‵ (fdies τ₀ l₀)
         ∷ Γ
 
     -- what is had once the parameters are in their locals
     abbrev Entered : List (Item 𝓤)
-    Entered = Held (‵ (fat full_share tS l₁ 0 (s₁ (length st₀)))) (‵ (fat full_share tL l₂ 0 s₂)) (‵ (fat full_share tA l₃ 0 (s₃ (length an₀)))) (‵ (froom word l₄ 0)) (‵ (froom word l₅ 0)) (‵ (froom ty_bool l₆ 0))
+    Entered = Held (‵ (fat full_share t_s l₁ 0 (s₁ (length st₀)))) (‵ (fat full_share t_l l₂ 0 s₂)) (‵ (fat full_share t_a l₃ 0 (s₃ (length an₀)))) (‵ (froom word l₄ 0)) (‵ (froom word l₅ 0)) (‵ (froom ty_bool l₆ 0))
         ((‵ (flft κ₁ q₁) ⊛ ‵ (flft κ₂ q₂) ⊛ ‵ (flft κ₃ q₃) ⊛ ‵ ftrue) ∷ ‵ (owns (MutSlice (named 0) κ₁ u32 ∷ ShrSlice (named 1) κ₂ T.the_row ∷ MutSlice (named 2) κ₃ u64 ∷ []) a vals) ∷ [])
 
   module _ (𝓣 : Tables 𝓤 H) (fm : FmC 𝓤 H 𝓛.laws 𝓣.C) (known : Triple 𝓤 (𝓣.C #batch·one) (One 𝓛 mem run))
@@ -294,7 +294,7 @@ module _ {M : Type 1} {𝓤 : Ura M} (𝓛 : Logic 𝓤) (mem : Memory → SProp
     -- N₁ and N₃ are the slices' counts, which stand in the locals
     abbrev At : ℕ → ℕ → ℕ → List ℕ → List ℕ → List (Item 𝓤)
     At N₁ N₃ i st an = ‵ (OwnS N₁ st) ∷ ‵ (flft κ₁ q₁) ∷ ‵ (OwnA N₃ an) ∷ ‵ (flft κ₃ q₃) ∷ ‵ Looks ∷ ‵ (flft κ₂ q₂)
-        ∷ Locals (‵ (fat full_share tS l₁ 0 (s₁ N₁))) (‵ (fat full_share tL l₂ 0 s₂)) (‵ (fat full_share tA l₃ 0 (s₃ N₃))) (‵ (fat full_share word l₄ 0 (vint w64 n))) (‵ (fat full_share word l₅ 0 (vint w64 i))) (‵ (froom ty_bool l₆ 0)) (‵ OwnL ∷ [])
+        ∷ Locals (‵ (fat full_share t_s l₁ 0 (s₁ N₁))) (‵ (fat full_share t_l l₂ 0 s₂)) (‵ (fat full_share t_a l₃ 0 (s₃ N₃))) (‵ (fat full_share word l₄ 0 (vint w64 n))) (‵ (fat full_share word l₅ 0 (vint w64 i))) (‵ (froom ty_bool l₆ 0)) (‵ OwnL ∷ [])
 
     -- when the loop is left, the rest of the body runs
     abbrev Left : Out → SProp 𝓤
@@ -303,7 +303,7 @@ module _ {M : Type 1} {𝓤 : Ura M} (𝓛 : Logic 𝓤) (mem : Memory → SProp
     -- every local is freed: both returns come here
     ends : (r : Batched) (st an : List ℕ) → Is R.the_row r (coded r) → length st ≡ length st₀ → length an ≡ length an₀ → Ensured st₀ ys an₀ r st an
         → Sq 𝓛 (‵ (OwnS (length st₀) st) ∷ ‵ (flft κ₁ q₁) ∷ ‵ (OwnA (length an₀) an) ∷ ‵ (flft κ₃ q₃) ∷ ‵ Looks ∷ ‵ (flft κ₂ q₂)
-        ∷ Locals (‵ (froom tS l₁ 0)) (‵ (froom tL l₂ 0)) (‵ (froom tA l₃ 0)) (‵ (froom word l₄ 0)) (‵ (froom word l₅ 0)) (‵ (froom ty_bool l₆ 0)) (‵ OwnL ∷ [])) (frees En (prop (Post (only (coded r)))))
+        ∷ Locals (‵ (froom t_s l₁ 0)) (‵ (froom t_l l₂ 0)) (‵ (froom t_a l₃ 0)) (‵ (froom word l₄ 0)) (‵ (froom word l₅ 0)) (‵ (froom ty_bool l₆ 0)) (‵ OwnL ∷ [])) (frees En (prop (Post (only (coded r)))))
     ends r st an is e₁ e₃ said =
         move ! (42 ∷ 43 ∷ []) $ free1 ! $ move ! (40 ∷ 41 ∷ []) $ free1 ! $ move ! (38 ∷ 39 ∷ []) $ free1 ! $ move ! (36 ∷ 37 ∷ []) $ free1 ! $ move ! (34 ∷ 35 ∷ []) $ free1 ! $ move ! (32 ∷ 33 ∷ []) $ free1 ! $ move ! (30 ∷ 31 ∷ []) $ free1 ! $ move ! (28 ∷ 29 ∷ []) $ free1 ! $ move ! (26 ∷ 27 ∷ []) $ free1 ! $ move ! (24 ∷ 25 ∷ []) $ free1 ! $ move ! (22 ∷ 23 ∷ []) $ free1 ! $ move ! (20 ∷ 21 ∷ []) $ free1 ! $ move ! (18 ∷ 19 ∷ []) $ free1 ! $ move ! (16 ∷ 17 ∷ []) $ free1 ! $ move ! (14 ∷ 15 ∷ []) $ free1 ! $ move ! (12 ∷ 13 ∷ []) $ free1 ! $ move ! (10 ∷ 11 ∷ []) $ free1 ! $ move ! (8 ∷ 9 ∷ []) $ free1 ! $ move ! (6 ∷ 7 ∷ []) $ free1 ! $ free0 ! $
         keep ! (0 ∷ 1 ∷ 2 ∷ 3 ∷ 5 ∷ 6 ∷ []) $ by ! (exits r st an is e₁ e₃ said)
@@ -321,7 +321,7 @@ module _ {M : Type 1} {𝓤 : Ura M} (𝓛 : Logic 𝓤) (mem : Memory → SProp
         returns ! (look ! 42 refl) $ forget ! 22 refl $ forget ! 32 refl $ forget ! 34 refl $ forget ! 36 refl $ forget ! 38 refl $ forget ! 40 refl $ forget ! 42 refl $ ends (Done 0) st an made e₁ e₃ said
 
     -- a turn that does one access: `one` is called with both slices lent again
-    more : (i : ℕ) (st an : List ℕ) (X : SProp 𝓤) → i < n → (length st ≡ stateWords) × (i < length an) → Room u32 (length st) → Room u64 (length an)
+    more : (i : ℕ) (st an : List ℕ) (X : SProp 𝓤) → i < n → (length st ≡ state_words) × (i < length an) → Room u32 (length st) → Room u64 (length an)
         → ((st' an' : List ℕ) → length st' ≡ length st → length an' ≡ length an → Does (elem i) i st an st' an' → ent 𝓤 (⋆ 𝓛 (At (length st) (length an) (suc i) st' an')) X)
         → ent 𝓤 (⋆ 𝓛 (At (length st) (length an) i st an)) (Wp 𝓤 H C Λ En mirs.turn-1 (after_turn 𝓤 H X Left))
     unfolding after_turn
@@ -346,15 +346,15 @@ module _ {M : Type 1} {𝓤 : Ura M} (𝓛 : Logic 𝓤) (mem : Memory → SProp
         elem_back ! T.the_row q' ys i none (mach (elem i) ∷ []) b₂ o₂ l $ shuts_slice ! tt T.the_row q' ys b₂ o₂ $
         -- [list's token; the borrow; state; its token; answers; their token; the locals; …]: state is lent again, for a lifetime ν₁ of the call, and answers for ν₃
         move ! (2 ∷ 3 ∷ []) $ lft_new ! tt (λ ν₁. move ! (1 ∷ 2 ∷ []) $
-        use2 𝓛 (later (some (λ (δ : GName). ‵ ((MutSlice (named 0) (ν₁ ∷ []) u32).own_val (rS δ st) (s₁ (length st) ∷ [])) ⊛ ‵ (Waits u32 κ₁ (ν₁ ∷ []) q₁ γ₁ b₁ o₁ δ st)))) (lends u32 κ₁ (ν₁ ∷ []) q₁ γ₁ b₁ o₁ 𝓛 (named 0) (named 0) st) $ await ! tt $ pick ! (λ δ₁. split ! $
+        use2 𝓛 (later (some (λ (δ : GName). ‵ ((MutSlice (named 0) (ν₁ ∷ []) u32).own_val (r_s δ st) (s₁ (length st) ∷ [])) ⊛ ‵ (Waits u32 κ₁ (ν₁ ∷ []) q₁ γ₁ b₁ o₁ δ st)))) (lends u32 κ₁ (ν₁ ∷ []) q₁ γ₁ b₁ o₁ 𝓛 (named 0) (named 0) st) $ await ! tt $ pick ! (λ δ₁. split ! $
         lft_new ! tt (λ ν₃. move ! (6 ∷ 7 ∷ []) $
-        use2 𝓛 (later (some (λ (δ : GName). ‵ ((MutSlice (named 1) (ν₃ ∷ []) u64).own_val (rA δ an) (s₃ (length an) ∷ [])) ⊛ ‵ (Waits u64 κ₃ (ν₃ ∷ []) q₃ γ₃ b₃ o₃ δ an)))) (lends u64 κ₃ (ν₃ ∷ []) q₃ γ₃ b₃ o₃ 𝓛 (named 2) (named 1) an) $ await ! tt $ pick ! (λ δ₃. split ! $
+        use2 𝓛 (later (some (λ (δ : GName). ‵ ((MutSlice (named 1) (ν₃ ∷ []) u64).own_val (r_a δ an) (s₃ (length an) ∷ [])) ⊛ ‵ (Waits u64 κ₃ (ν₃ ∷ []) q₃ γ₃ b₃ o₃ δ an)))) (lends u64 κ₃ (ν₃ ∷ []) q₃ γ₃ b₃ o₃ 𝓛 (named 2) (named 1) an) $ await ! tt $ pick ! (λ δ₃. split ! $
         -- [answers lent; what is kept of them; ν₃; state lent; what is kept of it; ν₁; list's token; the borrow; the locals; …]
         move ! (5 ∷ 2 ∷ 3 ∷ 0 ∷ []) $ join ! $ use3 𝓛 (raw ((One 𝓛 mem run).pre (to_one ν₁ ν₃ δ₁ δ₃ st an i))) (goes ν₁ ν₃ δ₁ δ₃ st an i asked i-fits is) $
         calls_at ! fm (One 𝓛 mem run) known (to_one ν₁ ν₃ δ₁ δ₃ st an i) (and_then ! (load ! (from ! (stop !)) (look ! 15 refl)) (and_then ! (load ! (from ! (stop !)) (look ! 11 refl)) (and_then ! (load ! (from ! (stop !)) (look ! 31 refl)) (and_then ! (load ! (from ! (stop !)) (look ! 5 refl)) (no_more !))))) (λ w.
-        use1 𝓛 (later (some (λ (r : Unit {0}). ((‵ (flft (ν₁ ∷ []) full_share) ⊛ ‵ (flft (ν₃ ∷ []) full_share) ⊛ ‵ ftrue) ⊛ ‵ (unit.own_val r (w ∷ []))) ⊛ raw (ensured 𝓛 one.ended (one.clauses 𝓛 mem run) (ν₁ ∷ [], (ν₃ ∷ [], tt)) (rS δ₁ st, (rA δ₃ an, (i, (elem i, tt)))) tt r)))) (id⊢ 𝓤 _) $ await ! tt $ pick ! (λ r.
+        use1 𝓛 (later (some (λ (r : Unit {0}). ((‵ (flft (ν₁ ∷ []) full_share) ⊛ ‵ (flft (ν₃ ∷ []) full_share) ⊛ ‵ ftrue) ⊛ ‵ (unit.own_val r (w ∷ []))) ⊛ raw (ensured 𝓛 one.ended (one.clauses 𝓛 mem run) (ν₁ ∷ [], (ν₃ ∷ [], tt)) (r_s δ₁ st, (r_a δ₃ an, (i, (elem i, tt)))) tt r)))) (id⊢ 𝓤 _) $ await ! tt $ pick ! (λ r.
         -- what `one` ensures, at some last lists
-        split ! $ move ! (1 ∷ []) $ use1 𝓛 (some (λ (zs : List ℕ × (List ℕ × (Unit {0} × (Unit {0} × Unit {0})))). ‵ (lasts one.ended (ν₁ ∷ [], (ν₃ ∷ [], tt)) (rS δ₁ st, (rA δ₃ an, (i, (elem i, tt)))) zs) ⊛ raw (fact 𝓤 (Does (elem i) i st an zs.0 zs.1.0)))) (id⊢ 𝓤 _) $ pick ! (λ zs.
+        split ! $ move ! (1 ∷ []) $ use1 𝓛 (some (λ (zs : List ℕ × (List ℕ × (Unit {0} × (Unit {0} × Unit {0})))). ‵ (lasts one.ended (ν₁ ∷ [], (ν₃ ∷ [], tt)) (r_s δ₁ st, (r_a δ₃ an, (i, (elem i, tt)))) zs) ⊛ raw (fact 𝓤 (Does (elem i) i st an zs.0 zs.1.0)))) (id⊢ 𝓤 _) $ pick ! (λ zs.
         split ! $ move ! (1 ∷ []) $ heard ! (Does (elem i) i st an zs.0 zs.1.0) (λ e. fsplit ! $ fsplit ! $ move ! (1 ∷ []) $ feq_l ! (λ e₁. move ! (1 ∷ []) $ fsplit ! $ fsplit ! $ move ! (1 ∷ []) $ feq_l ! (λ e₃.
         -- [answers' last list; true; state's; the tokens and the result; what is kept of answers; of state; list's token; the borrow; the locals; …]
         move ! (3 ∷ []) $ split ! $ move ! (1 ∷ []) $ peeks ! unit (Is unit) (shows 𝓛 unit) r (w ∷ []) (λ is'. land ! (from ! (stop !)) (init ! 23 refl ((Nothing-Lawful 𝓛).typed r _ is').0) $
@@ -409,8 +409,8 @@ module _ {M : Type 1} {𝓤 : Ura M} (𝓛 : Logic 𝓤) (mem : Memory → SProp
         → ent 𝓤 (⋆ 𝓛 (At N₁ N₃ i st an)) (Wp 𝓤 H C Λ En mirs.turn-1 (after_turn 𝓤 H X Left))
 
     module _ (done_all : batch-fits st₀ ys an₀ ≡ true) where
-      abbrev long : length st₀ ≡ stateWords
-      long = eqb-true (length st₀) stateWords (first (sized st₀) (leb n (length an₀)) done_all)
+      abbrev long : length st₀ ≡ state_words
+      long = eqb-true (length st₀) state_words (first (sized st₀) (leb n (length an₀)) done_all)
 
       abbrev enough : n ≤ length an₀
       enough = leb-true n (length an₀) (second (sized st₀) (leb n (length an₀)) done_all)
@@ -448,7 +448,7 @@ module _ {M : Type 1} {𝓤 : Ura M} (𝓛 : Logic 𝓤) (mem : Memory → SProp
     -- what is had before the loop, with n and what `fits` gave as they are said
     abbrev Begun : (x₄ x₆ : Item 𝓤) → List (Item 𝓤)
     Begun x₄ x₆ = ‵ (OwnS (length st₀) st₀) ∷ ‵ (flft κ₁ q₁) ∷ ‵ (OwnA (length an₀) an₀) ∷ ‵ (flft κ₃ q₃) ∷ ‵ Looks ∷ ‵ (flft κ₂ q₂)
-        ∷ Locals (‵ (fat full_share tS l₁ 0 (s₁ (length st₀)))) (‵ (fat full_share tL l₂ 0 s₂)) (‵ (fat full_share tA l₃ 0 (s₃ (length an₀)))) x₄ (‵ (froom word l₅ 0)) x₆ (‵ OwnL ∷ [])
+        ∷ Locals (‵ (fat full_share t_s l₁ 0 (s₁ (length st₀)))) (‵ (fat full_share t_l l₂ 0 s₂)) (‵ (fat full_share t_a l₃ 0 (s₃ (length an₀)))) x₄ (‵ (froom word l₅ 0)) x₆ (‵ OwnL ∷ [])
 
     -- the branch: the refusal, or the loop
     branch : (t : Bool) → t ≡ batch-fits st₀ ys an₀ → ent 𝓤 (⋆ 𝓛 (Begun (‵ (fat full_share word l₄ 0 (vint w64 n))) (‵ (fat full_share ty_bool l₆ 0 (vbool t))))) (Wp 𝓤 H C Λ En mirs.t-5 (at_return 𝓤 H En Post))
@@ -482,7 +482,7 @@ module _ {M : Type 1} {𝓤 : Ura M} (𝓛 : Logic 𝓤) (mem : Memory → SProp
     opens : ent 𝓤 (⋆ 𝓛 (Entered R'.mir T'.mir l₀ l₁ l₂ l₃ l₄ l₅ l₆ l₇ l₈ l₉ l₁₀ l₁₁ l₁₂ l₁₃ l₁₄ l₁₅ l₁₆ l₁₇ l₁₈)) (Wp 𝓤 H C Λ En mirs.t-1 (at_return 𝓤 H En Post))
     opens =
         qed 𝓛 (Entered R'.mir T'.mir l₀ l₁ l₂ l₃ l₄ l₅ l₆ l₇ l₈ l₉ l₁₀ l₁₁ l₁₂ l₁₃ l₁₄ l₁₅ l₁₆ l₁₇ l₁₈) ∵ move ! (39 ∷ []) $ fsplit ! $ move ! (1 ∷ []) $ fsplit ! $ move ! (1 ∷ []) $ fsplit ! $ move ! (42 ∷ []) $ split ! $ move ! (1 ∷ []) $ split ! $ move ! (1 ∷ []) $ split ! $
-        move ! (6 ∷ []) $ use1 𝓛 (‵ OwnL ⊛ ‵ OwnL) ((shr_slice_copy 𝓛 (named 1) κ₂ T.the_row).twice rL (s₂ ∷ [])) $ split ! $ fsplit ! $ move ! (1 ∷ []) $ fsplit ! $
+        move ! (6 ∷ []) $ use1 𝓛 (‵ OwnL ⊛ ‵ OwnL) ((shr_slice_copy 𝓛 (named 1) κ₂ T.the_row).twice r_l (s₂ ∷ [])) $ split ! $ fsplit ! $ move ! (1 ∷ []) $ fsplit ! $
         keep ! (10 ∷ 7 ∷ 8 ∷ 4 ∷ 1 ∷ 6 ∷ 11 ∷ 12 ∷ 13 ∷ 14 ∷ 15 ∷ 16 ∷ 17 ∷ 18 ∷ 19 ∷ 20 ∷ 21 ∷ 22 ∷ 23 ∷ 24 ∷ 25 ∷ 26 ∷ 27 ∷ 28 ∷ 29 ∷ 30 ∷ 31 ∷ 32 ∷ 33 ∷ 34 ∷ 35 ∷ 36 ∷ 37 ∷ 38 ∷ 39 ∷ 40 ∷ 41 ∷ 42 ∷ 43 ∷ 44 ∷ 45 ∷ 46 ∷ 47 ∷ 48 ∷ 3 ∷ []) $ by ! starts
 
   -- the locals are allocated and the parameters stored, at any types for the result and the element and any body: so nothing of these is computed here

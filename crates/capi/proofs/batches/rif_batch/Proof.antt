@@ -36,8 +36,8 @@ use denote.Triple.Clauses.{ensured, lasts}
 use denote.Triple.Table.{entered, cited}
 use denote.Triple.Walked.{Stays, gave_slice, stay_none_slice, on_exit, walk_of, Walks, ends_at, walked, Goes-gave_slice, Goes-none_slice, walk_Meets}
 use denote.Exit.{yes}
-use Rattle.access.specs.Answer.{encodedOf}
-use Rattle.batch.specs.Batch.{endAnswer, batchAnswers, batchState, batched}
+use Rattle.access.specs.Answer.{encoded_of}
+use Rattle.batch.specs.Batch.{end_answer, batch_answers, batch_state, batched}
 use Rattle.batch.specs.declared.batches.Batched.{Batched}
 use Rattle.batch.specs.contracts.batches.Batched as R
 use Rattle.batch.proofs.batches.Batched.TheLaws as R'
@@ -72,14 +72,14 @@ module _ {M : Type 1} {𝓤 : Ura M} (𝓛 : Logic 𝓤) (mem : Memory → SProp
   -- the three parameters, and their machine values
   open 𝓛 use {H}
 
-  abbrev rS : MutBor (List ℕ)
-  rS = record { ref_ptr = (b₁, o₁); ghost_name = γ₁; now = st }
+  abbrev r_s : MutBor (List ℕ)
+  r_s = record { ref_ptr = (b₁, o₁); ghost_name = γ₁; now = st }
 
-  abbrev rL : Bor (List MemoryAccess)
-  rL = record { ref_ptr = (b₂, o₂); ghost_name = γ₂; now = ys }
+  abbrev r_l : Bor (List MemoryAccess)
+  r_l = record { ref_ptr = (b₂, o₂); ghost_name = γ₂; now = ys }
 
-  abbrev rA : Bor (List ℕ)
-  rA = record { ref_ptr = (b₃, o₃); ghost_name = γ₃; now = an }
+  abbrev r_a : Bor (List ℕ)
+  r_a = record { ref_ptr = (b₃, o₃); ghost_name = γ₃; now = an }
 
   abbrev s₁ : Val
   s₁ = slice_val (b₁, o₁) (length st)
@@ -94,7 +94,7 @@ module _ {M : Type 1} {𝓤 : Ura M} (𝓛 : Logic 𝓤) (mem : Memory → SProp
   Arg = Bor (List ℕ) × (Bor (List MemoryAccess) × (Bor (List ℕ) × Unit {0}))
 
   abbrev a : Arg
-  a = (rS, (rL, (rA, tt)))
+  a = (r_s, (r_l, (r_a, tt)))
 
   abbrev vals : List Val × (List Val × (List Val × Unit {0}))
   vals = (s₁ ∷ [], (s₂ ∷ [], (s₃ ∷ [], tt)))
@@ -112,18 +112,18 @@ module _ {M : Type 1} {𝓤 : Ura M} (𝓛 : Logic 𝓤) (mem : Memory → SProp
   Owns = owns (MutSlice (named 0) κ₁ u32 ∷ ShrSlice (named 1) κ₂ T.the_row ∷ MutSlice (named 2) κ₃ u64 ∷ []) a vals
 
   abbrev OwnL : Fml
-  OwnL = (ShrSlice (named 1) κ₂ T.the_row).own_val rL (s₂ ∷ [])
+  OwnL = (ShrSlice (named 1) κ₂ T.the_row).own_val r_l (s₂ ∷ [])
 
   -- what list owns is had twice: one copy is for the exit
   twice : ent 𝓤 (sem 𝓛 Owns) (sep 𝓤 (sem 𝓛 OwnL) (sem 𝓛 Owns))
   twice =
-      qed 𝓛 (‵ Owns ∷ []) ∵ fsplit ! $ move ! (1 ∷ []) $ fsplit ! $ use1 𝓛 (‵ OwnL ⊛ ‵ OwnL) ((shr_slice_copy 𝓛 (named 1) κ₂ T.the_row).twice rL (s₂ ∷ [])) $ split ! $ frame ! $
+      qed 𝓛 (‵ Owns ∷ []) ∵ fsplit ! $ move ! (1 ∷ []) $ fsplit ! $ use1 𝓛 (‵ OwnL ⊛ ‵ OwnL) ((shr_slice_copy 𝓛 (named 1) κ₂ T.the_row).twice r_l (s₂ ∷ [])) $ split ! $ frame ! $
       -- [list; answers; state]
       fjoin ! $ move ! (1 ∷ 0 ∷ []) $ fjoin ! $ done !
 
   -- from what is had at exit to the `post` of `walk_of`
   exits : (x : ℕ) (v : Val) (st' an' : List ℕ) → length st' ≡ length st → length an' ≡ length an
-      → (x ≡ encodedOf (endAnswer (batched st ys an))) × ((st' ≡ batchState st ys an) × (an' ≡ batchAnswers st ys an))
+      → (x ≡ encoded_of (end_answer (batched st ys an))) × ((st' ≡ batch_state st ys an) × (an' ≡ batch_answers st ys an))
       → ent 𝓤 (⋆ 𝓛 (Tokens ∷ ‵ (finally u32 γ₁ st') ∷ ‵ OwnL ∷ ‵ (finally u64 γ₃ an') ∷ ‵ (u64.own_val x (v ∷ [])) ∷ [])) (Post v)
   exits x v st' an' e₁ e₃ said =
       qed 𝓛 (Tokens ∷ ‵ (finally u32 γ₁ st') ∷ ‵ OwnL ∷ ‵ (finally u64 γ₃ an') ∷ ‵ (u64.own_val x (v ∷ [])) ∷ []) ∵
@@ -161,20 +161,20 @@ module _ {M : Type 1} {𝓤 : Ura M} (𝓛 : Logic 𝓤) (mem : Memory → SProp
         move ! (18 ∷ []) $ calls_at ! fm (Batch 𝓛 mem run) known to-batch (and_then ! (load ! (from ! (stop !)) (look ! 5 refl)) (and_then ! (load ! (from ! (stop !)) (look ! 13 refl)) (and_then ! (load ! (from ! (stop !)) (look ! 1 refl)) (no_more !)))) (λ w.
         use1 𝓛 (later (some (λ (r : Batched). (Tokens ⊛ ‵ ((R.the_row).own_val r (w ∷ []))) ⊛ raw (ensured 𝓛 batch.ended (batch.clauses 𝓛 mem run) (κ₁, (κ₂, (κ₃, tt))) a tt r)))) (id⊢ 𝓤 _) $ await ! tt $ pick ! (λ r.
         split ! $ move ! (1 ∷ []) $ use1 𝓛 (some (λ (zs : List ℕ × (Unit {0} × (List ℕ × Unit {0}))). ‵ (lasts batch.ended (κ₁, (κ₂, (κ₃, tt))) a zs)
-        ⊛ raw (fact 𝓤 (r ≡ batched st ys an)) ⊛ raw (fact 𝓤 (zs.0 ≡ batchState st ys an)) ⊛ raw (fact 𝓤 (zs.1.1.0 ≡ batchAnswers st ys an)))) (id⊢ 𝓤 _) $ pick ! (λ zs.
-        split ! $ move ! (1 ∷ []) $ split ! $ heard ! (r ≡ batched st ys an) (λ f₀. split ! $ heard ! (zs.0 ≡ batchState st ys an) (λ f₁. heard ! (zs.1.1.0 ≡ batchAnswers st ys an) (λ f₃.
+        ⊛ raw (fact 𝓤 (r ≡ batched st ys an)) ⊛ raw (fact 𝓤 (zs.0 ≡ batch_state st ys an)) ⊛ raw (fact 𝓤 (zs.1.1.0 ≡ batch_answers st ys an)))) (id⊢ 𝓤 _) $ pick ! (λ zs.
+        split ! $ move ! (1 ∷ []) $ split ! $ heard ! (r ≡ batched st ys an) (λ f₀. split ! $ heard ! (zs.0 ≡ batch_state st ys an) (λ f₁. heard ! (zs.1.1.0 ≡ batch_answers st ys an) (λ f₃.
         fsplit ! $ fsplit ! $ move ! (1 ∷ []) $ feq_l ! (λ e₁. move ! (1 ∷ []) $ fsplit ! $ move ! (1 ∷ []) $ fsplit ! $ fsplit ! $ move ! (1 ∷ []) $ feq_l ! (λ e₃.
         -- [answers' last list; true; true; state's; the tokens and the answer; the locals; list's copy]
         move ! (4 ∷ []) $ split ! $ move ! (1 ∷ []) $ facts ! R.the_row (Is R.the_row) (shows 𝓛 R.the_row) r (w ∷ []) (λ is. land ! (from ! (stop !)) (init ! 13 refl ((EL.lawful R.the_type R'.the_laws 𝓛 tt).typed r _ is).0) $
         use0 𝓛 (raw ((Encoded 𝓛 mem run).pre (to-encoded r w))) (asks r w is) $ calls_at ! fm (Encoded 𝓛 mem run) coded (to-encoded r w) (and_then ! (load ! (from ! (stop !)) (look ! 14 refl)) (no_more !)) (λ v.
         use1 𝓛 (later (some (λ (x : ℕ). (‵ ftrue ⊛ ‵ (u64.own_val x (v ∷ []))) ⊛ raw (ensured 𝓛 encoded.ended (encoded.clauses 𝓛 mem run) tt (r, tt) tt x)))) (id⊢ 𝓤 _) $ await ! tt $ pick ! (λ x.
-        split ! $ move ! (1 ∷ []) $ use1 𝓛 (some (λ (us : Unit {0} × Unit {0}). ‵ (lasts encoded.ended tt (r, tt) us) ⊛ raw (fact 𝓤 (x ≡ encodedOf (endAnswer r))))) (id⊢ 𝓤 _) $ pick ! (λ us.
-        split ! $ move ! (1 ∷ []) $ heard ! (x ≡ encodedOf (endAnswer r)) (λ f. move ! (1 ∷ []) $ split ! $ move ! (1 ∷ []) $
+        split ! $ move ! (1 ∷ []) $ use1 𝓛 (some (λ (us : Unit {0} × Unit {0}). ‵ (lasts encoded.ended tt (r, tt) us) ⊛ raw (fact 𝓤 (x ≡ encoded_of (end_answer r))))) (id⊢ 𝓤 _) $ pick ! (λ us.
+        split ! $ move ! (1 ∷ []) $ heard ! (x ≡ encoded_of (end_answer r)) (λ f. move ! (1 ∷ []) $ split ! $ move ! (1 ∷ []) $
         peeks ! u64 (Is u64) (shows 𝓛 u64) x (v ∷ []) (λ is'. land ! (from ! (stop !)) (init ! 24 refl ((uint_Lawful 𝓛 w64).typed x _ is').0) $
         -- [the number; true; true; the tokens; answers' last list; true; true; state's; the locals; list's copy]
         returns ! (look ! 24 refl) $ forget ! 8 refl $ forget ! 10 refl $ forget ! 12 refl $ forget ! 14 refl $ forget ! 16 refl $ forget ! 18 refl $ forget ! 20 refl $ forget ! 22 refl $ forget ! 24 refl $
         move ! (24 ∷ 25 ∷ []) $ free1 ! $ move ! (22 ∷ 23 ∷ []) $ free1 ! $ move ! (20 ∷ 21 ∷ []) $ free1 ! $ move ! (18 ∷ 19 ∷ []) $ free1 ! $ move ! (16 ∷ 17 ∷ []) $ free1 ! $ move ! (14 ∷ 15 ∷ []) $ free1 ! $ move ! (12 ∷ 13 ∷ []) $ free1 ! $ move ! (10 ∷ 11 ∷ []) $ free1 ! $ move ! (8 ∷ 9 ∷ []) $ free1 ! $ free0 ! $
-        keep ! (3 ∷ 7 ∷ 8 ∷ 4 ∷ 0 ∷ []) $ by ! (exits x v zs.0 zs.1.1.0 e₁ e₃ (f ∙ ap (λ (b : Batched). encodedOf (endAnswer b)) f₀, (f₁, f₃))))))))))))))))))))))))))
+        keep ! (3 ∷ 7 ∷ 8 ∷ 4 ∷ 0 ∷ []) $ by ! (exits x v zs.0 zs.1.1.0 e₁ e₃ (f ∙ ap (λ (b : Batched). encoded_of (end_answer b)) f₀, (f₁, f₃))))))))))))))))))))))))))
 
 module _ {M : Type 1} {𝓤 : Ura M} (𝓛 : Logic 𝓤) (mem : Memory → SProp 𝓤) (run : Routine → Fun 𝓤) (𝓣 : Tables 𝓤 𝓛.H) where
   open 𝓛 use {H}

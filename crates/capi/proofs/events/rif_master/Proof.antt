@@ -1,10 +1,10 @@
 use borrow.Author.Rules.{rules}
-use Rattle.capi.specs.Events.{masterEvent}
+use Rattle.capi.specs.Events.{master_event}
 use Rattle.capi.proofs.events.rif_master.Statement.{statement}
 use Rattle.capi.proofs.events.rif_master.Tie as tie
 
 returns : tie.Need-returns
-unfolding masterEvent
+unfolding master_event
 returns c = c.before.before.master-encoded.ensures
 
 pub rif-master-spec : {M : Type 1} → statement M

@@ -1,22 +1,22 @@
 -- `capi::events::rif_register` meets its contract: the block that its number stands for, or nothing.
 use borrow.Author.Rules.{rules}
 use mathlib.Core.Path.{refl, sym, ap, ◌∙◌}
-use Rattle.access.specs.Answer.{encodedOf}
-use Rattle.capi.specs.Events.{askedAnswer, askedState, registerAsked}
+use Rattle.access.specs.Answer.{encoded_of}
+use Rattle.capi.specs.Events.{asked_answer, asked_state, register_asked}
 use Rattle.capi.proofs.events.rif_register.Statement.{statement}
 use Rattle.capi.proofs.events.rif_register.Tie as tie
 
 returns : tie.Need-returns
-unfolding registerAsked askedState
+unfolding register_asked asked_state
 returns c =
     rw (sym c.before.before.before.before.block-numbered.ensures ∙ c.before.before.enum_told.given.1) (c.nothing.ensures, refl)
 
 returns-2 : tie.Need-returns-2
-unfolding registerAsked askedAnswer askedState
+unfolding register_asked asked_answer asked_state
 returns-2 c =
     let u = c.before.before.before.apply-register in
     let n = c.before.before.before.before.before.before in
-    rw (sym n.before.before.block-numbered.ensures ∙ n.block.given.1) (c.encoded.ensures ∙ ap encodedOf u.ensures.0, u.ensures.1)
+    rw (sym n.before.before.block-numbered.ensures ∙ n.block.given.1) (c.encoded.ensures ∙ ap encoded_of u.ensures.0, u.ensures.1)
 
 pub rif-register-spec : {M : Type 1} → statement M
 rif-register-spec =

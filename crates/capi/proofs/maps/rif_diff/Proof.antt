@@ -1,13 +1,13 @@
 use mathlib.Core.Path.{◌∙◌, ap}
 use borrow.Author.Rules.{rules}
-use Rattle.access.specs.Answer.{encodedOf}
+use Rattle.access.specs.Answer.{encoded_of}
 use Rattle.capi.proofs.maps.rif_diff.Statement.{statement}
 use Rattle.capi.proofs.maps.rif_diff.Tie as tie
 
 returns : tie.Need-returns
 returns c =
     let f = c.before.before.before.fill.ensures in
-    (c.encoded.ensures ∙ ap encodedOf f.0, (f.1.1, f.1.0))
+    (c.encoded.ensures ∙ ap encoded_of f.0, (f.1.1, f.1.0))
 
 pub rif-diff-spec : {M : Type 1} → statement M
 rif-diff-spec =

@@ -4,7 +4,7 @@ use borrow.Author.Rules.{rules}
 use native.Mathlib.Omega.{arith}
 use Prim.Native.Nat.{ℕ, ◌<◌}
 use lib.ListN.{get_or, length}
-use Rattle.map.specs.Fill.{rowNumbers}
+use Rattle.map.specs.Fill.{row_numbers}
 use Rattle.capi.proofs.Lookups.{none_found, read_number}
 use Rattle.capi.proofs.maps.rif_lookup.Statement.{statement}
 use Rattle.capi.proofs.maps.rif_lookup.Tie as tie
@@ -13,7 +13,7 @@ returns : tie.Need-returns
 returns c =
     let row = c.before.before.before.before.lookup in
     let three = c.before.before.before.if1.true in
-    let read : (i d : ℕ) → i < rowNumbers → get_or row.result.now i 0 ≡ get_or row.result.now i d =
+    let read : (i d : ℕ) → i < row_numbers → get_or row.result.now i 0 ≡ get_or row.result.now i d =
     λ i d h. read_number row.result.now i 0 d (rw three h) in
     rw (← row.ensures) (refl, (read 0 _ (omega arith), (read 1 _ (omega arith), read 2 _ (omega arith))))
 

@@ -1,23 +1,23 @@
 -- `capi::numbers::block_numbered` meets its contract.
 use borrow.Author.Tests.{ne_eqb}
-use Rattle.capi.specs.Numbers.{blockNumbered}
+use Rattle.capi.specs.Numbers.{block_numbered}
 use Rattle.capi.proofs.numbers.block_numbered.Statement.{statement}
 use Rattle.capi.proofs.numbers.block_numbered.Tie as tie
 
 returns : tie.Need-returns
-unfolding blockNumbered
+unfolding block_numbered
 returns c = rw c.match.keys1
 
 returns-2 : tie.Need-returns-2
-unfolding blockNumbered
+unfolding block_numbered
 returns-2 c = rw c.match.keys2
 
 returns-3 : tie.Need-returns-3
-unfolding blockNumbered
+unfolding block_numbered
 returns-3 c = rw c.match.keys3
 
 returns-4 : tie.Need-returns-4
-unfolding blockNumbered
+unfolding block_numbered
 returns-4 c =
     let k = c.match.rest in
     rw (ne_eqb _ _ k.0.0.1, ne_eqb _ _ k.0.1, ne_eqb _ _ k.1)

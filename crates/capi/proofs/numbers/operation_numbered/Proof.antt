@@ -1,23 +1,23 @@
 -- `capi::numbers::operation_numbered` meets its contract.
 use borrow.Author.Tests.{ne_eqb}
-use Rattle.capi.specs.Numbers.{operationNumbered}
+use Rattle.capi.specs.Numbers.{operation_numbered}
 use Rattle.capi.proofs.numbers.operation_numbered.Statement.{statement}
 use Rattle.capi.proofs.numbers.operation_numbered.Tie as tie
 
 returns : tie.Need-returns
-unfolding operationNumbered
+unfolding operation_numbered
 returns c = rw c.match.keys1
 
 returns-2 : tie.Need-returns-2
-unfolding operationNumbered
+unfolding operation_numbered
 returns-2 c = rw c.match.keys2
 
 returns-3 : tie.Need-returns-3
-unfolding operationNumbered
+unfolding operation_numbered
 returns-3 c = rw c.match.keys3
 
 returns-4 : tie.Need-returns-4
-unfolding operationNumbered
+unfolding operation_numbered
 returns-4 c =
     let k = c.match.rest in
     rw (ne_eqb _ _ k.0.0.1, ne_eqb _ _ k.0.1, ne_eqb _ _ k.1)

@@ -4,14 +4,14 @@ use Rattle.access.specs.declared.answer.Answer.{Answer}
 use Rattle.access.specs.declared.request.Request.{Request}
 use Rattle.device.specs.Layout.{state_of}
 use Rattle.device.specs.State.{State}
-use Rattle.device.specs.Step.{registerStep}
+use Rattle.device.specs.Step.{register_step}
 use Rattle.device.specs.declared.event.Block.{Block}
 use Rattle.device.proofs.applied.access_register.Statement.{statement}
 use Rattle.device.proofs.applied.access_register.Tie as tie
 
 -- the block is the one that was called for
 by-block : (q : Request) (s : State) {b d : Block} {a : Answer} {t : State} → b ≡ d
-    → (a ≡ (registerStep d q s).answer) × (t ≡ (registerStep d q s).next) → (a ≡ (registerStep b q s).answer) × (t ≡ (registerStep b q s).next)
+    → (a ≡ (register_step d q s).answer) × (t ≡ (register_step d q s).next) → (a ≡ (register_step b q s).answer) × (t ≡ (register_step b q s).next)
 by-block q s e r = rw e r
 
 returns : tie.Need-returns

@@ -3,14 +3,14 @@ use mathlib.Core.List.{List}
 use mathlib.Core.Path.{◌≡◌}
 use Prim.Native.Nat.{ℕ}
 use Rattle.access.specs.declared.answer.Answer.{Answer}
-use Rattle.device.specs.Applied.{appliedAnswer, appliedState}
+use Rattle.device.specs.Applied.{applied_answer, applied_state}
 use Rattle.device.specs.declared.event.Event.{Event}
 use Rattle.device.proofs.applied.apply.Statement.{statement}
 use Rattle.device.proofs.applied.apply.Tie as tie
 
 -- the event is of the kind that was called for
-by-event : (m : List ℕ) {e f : Event} {a : Answer} {m' : List ℕ} → e ≡ f → (a ≡ appliedAnswer f m) × (m' ≡ appliedState f m)
-    → (a ≡ appliedAnswer e m) × (m' ≡ appliedState e m)
+by-event : (m : List ℕ) {e f : Event} {a : Answer} {m' : List ℕ} → e ≡ f → (a ≡ applied_answer f m) × (m' ≡ applied_state f m)
+    → (a ≡ applied_answer e m) × (m' ≡ applied_state e m)
 by-event m q r = rw q r
 
 returns : tie.Need-returns

@@ -2,7 +2,7 @@ use borrow.Author.Rules.{rules}
 use mathlib.Core.Path.{refl}
 use lib.Dec.{lit<}
 use lib.ListN.{length-set}
-use Rattle.device.specs.Layout.{ierPart, isrPart, linePart, countPart}
+use Rattle.device.specs.Layout.{ier_part, isr_part, line_part, count_part}
 use Rattle.device.proofs.StateLayout.{heads-none, heads-more, heads-word, iac-stored}
 use Rattle.device.proofs.blocks.store_iac.Statement.{statement}
 use Rattle.device.proofs.blocks.store_iac.Tie as tie
@@ -20,10 +20,10 @@ returns c =
     let x = c.before.before.before.before.before.before.store-six in
     let y = c.before.before.store-six2 in
     iac-stored i
-    (heads-word countPart i.count (lit< tt) refl
-    (heads-word linePart i.line (lit< tt) refl
-    (heads-more isrPart i.isr (lit< tt) y.ensures.0
-    (heads-more ierPart i.ier (lit< tt) x.ensures.0 (heads-none s.args.state.now s.requires) x.ensures.1) y.ensures.1)
+    (heads-word count_part i.count (lit< tt) refl
+    (heads-word line_part i.line (lit< tt) refl
+    (heads-more isr_part i.isr (lit< tt) y.ensures.0
+    (heads-more ier_part i.ier (lit< tt) x.ensures.0 (heads-none s.args.state.now s.requires) x.ensures.1) y.ensures.1)
     refl)
     refl)
 

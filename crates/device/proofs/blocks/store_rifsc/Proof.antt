@@ -2,7 +2,7 @@ use borrow.Author.Rules.{rules}
 use mathlib.Core.Path.{refl}
 use lib.Dec.{lit<}
 use lib.ListN.{length-set}
-use Rattle.device.specs.Layout.{crPart, seccfgrPart, privcfgrPart, rcfglockrPart, rimccrPart, attrPart}
+use Rattle.device.specs.Layout.{cr_part, seccfgr_part, privcfgr_part, rcfglockr_part, rimccr_part, attr_part}
 use Rattle.device.proofs.StateLayout.{heads-none, heads-more, heads-word, rifsc-stored}
 use Rattle.device.proofs.blocks.store_rifsc.Statement.{statement}
 use Rattle.device.proofs.blocks.store_rifsc.Tie as tie
@@ -24,12 +24,12 @@ returns c =
     let y = q.store-six2.ensures in
     let z = q.before.before.before.before.store-six.ensures in
     rifsc-stored r
-    (heads-word rimccrPart r.rimccr (lit< tt) refl
-    (heads-word crPart r.cr (lit< tt) refl
-    (heads-more attrPart r.attr (lit< tt) d.0
-    (heads-more rcfglockrPart r.rcfglockr (lit< tt) x.0
-    (heads-more privcfgrPart r.privcfgr (lit< tt) y.0
-    (heads-more seccfgrPart r.seccfgr (lit< tt) z.0 (heads-none s.args.state.now s.requires) z.1) y.1) x.1) d.1)
+    (heads-word rimccr_part r.rimccr (lit< tt) refl
+    (heads-word cr_part r.cr (lit< tt) refl
+    (heads-more attr_part r.attr (lit< tt) d.0
+    (heads-more rcfglockr_part r.rcfglockr (lit< tt) x.0
+    (heads-more privcfgr_part r.privcfgr (lit< tt) y.0
+    (heads-more seccfgr_part r.seccfgr (lit< tt) z.0 (heads-none s.args.state.now s.requires) z.1) y.1) x.1) d.1)
     refl)
     refl)
 

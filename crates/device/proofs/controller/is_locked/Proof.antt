@@ -1,18 +1,18 @@
 use borrow.Author.Rules.{rules}
 use mathlib.Core.Path.{refl}
 use lib.Dec.{lit<}
-use Rattle.device.specs.Layout.{crPart, rimccrPart, state_of}
+use Rattle.device.specs.Layout.{cr_part, rimccr_part, state_of}
 use Rattle.device.proofs.StateLayout.{head-word}
 use Rattle.device.proofs.controller.is_locked.Statement.{statement}
 use Rattle.device.proofs.controller.is_locked.Tie as tie
 
 returns : tie.Need-returns
 unfolding state_of
-returns c = simp (c.before.before.enum_told.given.1, c.bit-of.ensures, head-word c.before.before.before.before.before.args.state.now crPart (lit< tt) refl)
+returns c = simp (c.before.before.enum_told.given.1, c.bit-of.ensures, head-word c.before.before.before.before.before.args.state.now cr_part (lit< tt) refl)
 
 returns-2 : tie.Need-returns-2
 unfolding state_of
-returns-2 c = simp (c.before.before.enum-told2.given.1, c.bit-of2.ensures, head-word c.before.before.before.before.before.args.state.now rimccrPart (lit< tt) refl)
+returns-2 c = simp (c.before.before.enum-told2.given.1, c.bit-of2.ensures, head-word c.before.before.before.before.before.args.state.now rimccr_part (lit< tt) refl)
 
 returns-3 : tie.Need-returns-3
 returns-3 c = simp c.enum-told3.given.1

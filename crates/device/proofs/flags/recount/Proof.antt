@@ -2,10 +2,10 @@ use borrow.Author.Rules.{rules}
 use mathlib.Core.Path.{refl, ap, ◌∙◌}
 use lib.Dec.{lit<}
 use lib.ListN.{length-set}
-use Rattle.iac.specs.Contents.{withHeld}
+use Rattle.iac.specs.Contents.{with_held}
 use Rattle.iac.specs.declared.held.Held.{Held}
-use Rattle.device.specs.Layout.{linePart, countPart, state_of}
-use Rattle.device.specs.State.{withIac}
+use Rattle.device.specs.Layout.{line_part, count_part, state_of}
+use Rattle.device.specs.State.{with_iac}
 use Rattle.device.proofs.StateLayout.{head-word, heads-none, heads-word, held-stored}
 use Rattle.device.proofs.flags.recount.Statement.{statement}
 use Rattle.device.proofs.flags.recount.Tie as tie
@@ -22,8 +22,8 @@ returns c =
     let m = c.before.before.before.before.before.args.state.now in
     let h = c.with-count.result in
     held-stored h
-    (heads-word countPart h.count (lit< tt) refl (heads-word linePart h.line (lit< tt) refl (heads-none m (search rules)) refl) refl)
-    ∙ ap (λ (k : Held). withIac (state_of m) (withHeld (state_of m).iac k)) (simp (c.with-count.ensures, head-word m linePart (lit< tt) refl, head-word m countPart (lit< tt) refl))
+    (heads-word count_part h.count (lit< tt) refl (heads-word line_part h.line (lit< tt) refl (heads-none m (search rules)) refl) refl)
+    ∙ ap (λ (k : Held). with_iac (state_of m) (with_held (state_of m).iac k)) (simp (c.with-count.ensures, head-word m line_part (lit< tt) refl, head-word m count_part (lit< tt) refl))
 
 pub recount-spec : {M : Type 1} → statement M
 recount-spec =

@@ -1,10 +1,10 @@
 use borrow.Author.Rules.{rules}
 use mathlib.Core.Path.{sym, ap}
-use Rattle.iac.specs.Contents.{stored, withWord}
+use Rattle.iac.specs.Contents.{stored, with_word}
 use Rattle.iac.specs.Registers.{row_of}
 use Rattle.iac.proofs.HeldAt.{at_none}
 use Rattle.device.specs.Layout.{state_of}
-use Rattle.device.specs.State.{withIac}
+use Rattle.device.specs.State.{with_iac}
 use Rattle.device.proofs.flags.rewrite.Statement.{statement}
 use Rattle.device.proofs.flags.rewrite.Tie as tie
 
@@ -26,25 +26,25 @@ returns : tie.Need-returns
 returns c = rw c.before.before.before.before.before.reg.given.1 c.before.before.rewrite-ier.ensures
 
 returns-2 : tie.Need-returns-2
-unfolding withWord
+unfolding with_word
 returns-2 c =
     let s = state_of c.before.before.before.args.state.now in
-    rw c.enum_told.given.1 (ap (withIac s) (sym (at_none s.iac)))
+    rw c.enum_told.given.1 (ap (with_iac s) (sym (at_none s.iac)))
 
 returns-3 : tie.Need-returns-3
 returns-3 c = rw c.before.before.before.before.before.reg2.given.1 c.before.before.rewrite-isr.ensures
 
 returns-4 : tie.Need-returns-4
-unfolding withWord
+unfolding with_word
 returns-4 c =
     let s = state_of c.before.before.before.args.state.now in
-    rw c.enum-told2.given.1 (ap (withIac s) (sym (at_none s.iac)))
+    rw c.enum-told2.given.1 (ap (with_iac s) (sym (at_none s.iac)))
 
 returns-5 : tie.Need-returns-5
-unfolding withWord
+unfolding with_word
 returns-5 c =
     let s = state_of c.before.before.before.args.state.now in
-    rw c.enum-told3.given.1 (ap (withIac s) (sym (at_none s.iac)))
+    rw c.enum-told3.given.1 (ap (with_iac s) (sym (at_none s.iac)))
 
 pub rewrite-spec : {M : Type 1} → statement M
 rewrite-spec =

@@ -1,6 +1,6 @@
 use borrow.Author.Rules.{rules}
 use lib.Dec.{lit<}
-use Rattle.device.specs.Layout.{ierPart, isrPart, state_of}
+use Rattle.device.specs.Layout.{ier_part, isr_part, state_of}
 use Rattle.device.proofs.HeldSteps.{state-sized, isr-kept}
 use Rattle.device.proofs.PartWords.{heads-set, isr-stored}
 use Rattle.device.proofs.StateLayout.{head-part}
@@ -15,8 +15,8 @@ returns c =
     let s = t.before.before.before in
     let a = s.args in
     isr-kept (state_of a.state.now) a.x a.new (state-sized a.state.now s.requires.0) s.requires.1 c.before.before.keep.ensures s.requires.2
-    (isr-stored a.x a.new (heads-set isrPart a.x a.new s.requires.0 (lit< tt) t.store_in.ensures))
-    (simp (w.word_in.ensures, head-part t.store_in.new.0 ierPart (lit< tt)))
+    (isr-stored a.x a.new (heads-set isr_part a.x a.new s.requires.0 (lit< tt) t.store_in.ensures))
+    (simp (w.word_in.ensures, head-part t.store_in.new.0 ier_part (lit< tt)))
 
 pub rewrite-isr-spec : {M : Type 1} → statement M
 rewrite-isr-spec =

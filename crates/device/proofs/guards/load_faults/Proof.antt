@@ -1,6 +1,6 @@
 use borrow.Author.Rules.{rules}
 use lib.Dec.{lit<}
-use Rattle.risaf.specs.Contents.{iasrAt, iaesrAt, iaddrAt}
+use Rattle.risaf.specs.Contents.{iasr_at, iaesr_at, iaddr_at}
 use Rattle.device.proofs.GuardLayout.{word_read}
 use Rattle.device.proofs.guards.load_faults.Statement.{statement}
 use Rattle.device.proofs.guards.load_faults.Tie as tie
@@ -12,9 +12,9 @@ returns c =
     let p = s.args.place in
     simp (
       c.before.before.before.guard-start.ensures.0,
-      ← word_read m p iasrAt s.requires.0 s.requires.1 (lit< tt),
-      ← word_read m p iaesrAt s.requires.0 s.requires.1 (lit< tt),
-      ← word_read m p iaddrAt s.requires.0 s.requires.1 (lit< tt),
+      ← word_read m p iasr_at s.requires.0 s.requires.1 (lit< tt),
+      ← word_read m p iaesr_at s.requires.0 s.requires.1 (lit< tt),
+      ← word_read m p iaddr_at s.requires.0 s.requires.1 (lit< tt),
     )
 
 pub load-faults-spec : {M : Type 1} → statement M

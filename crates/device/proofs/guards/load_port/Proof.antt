@@ -3,7 +3,7 @@ use mathlib.Core.List.{List}
 use mathlib.Core.Path.{sym, ap, ◌∙◌}
 use Prim.Native.Nat.{ℕ}
 use native.Mathlib.Nat.{add-sub_cancel_left}
-use Rattle.risaf.specs.Port.{portIn}
+use Rattle.risaf.specs.Port.{port_in}
 use Rattle.device.proofs.GuardLayout.{guard-words}
 use Rattle.device.proofs.guards.load_port.Statement.{statement}
 use Rattle.device.proofs.guards.load_port.Tie as tie
@@ -14,7 +14,7 @@ returns c =
     let a = s.args in
     c.at.ensures
     ∙ rw (c.before.before.guard-start.ensures.0, add-sub_cancel_left)
-    (ap (λ (w : List ℕ). portIn w a.row) (sym (guard-words a.state.now a.place s.requires.0 s.requires.1)))
+    (ap (λ (w : List ℕ). port_in w a.row) (sym (guard-words a.state.now a.place s.requires.0 s.requires.1)))
 
 pub load-port-spec : {M : Type 1} → statement M
 load-port-spec =

@@ -3,7 +3,7 @@ use mathlib.Core.List.{List}
 use mathlib.Core.Path.{sym, ap, ◌∙◌}
 use Prim.Native.Nat.{ℕ}
 use native.Mathlib.Nat.{add-sub_cancel_left}
-use Rattle.risaf.specs.Port.{readAnswer}
+use Rattle.risaf.specs.Port.{read_answer}
 use Rattle.device.proofs.GuardLayout.{guard-words}
 use borrow.Author.Rules.{rules}
 use Rattle.device.proofs.guards.read_register.Statement.{statement}
@@ -15,7 +15,7 @@ returns c =
     let a = s.args in
     c.read.ensures
     ∙ rw (c.before.before.guard-start.ensures.0, add-sub_cancel_left)
-    (ap (λ (w : List ℕ). readAnswer a.shape w a.q) (sym (guard-words a.state.now a.shape.place s.requires.0 s.requires.1)))
+    (ap (λ (w : List ℕ). read_answer a.shape w a.q) (sym (guard-words a.state.now a.shape.place s.requires.0 s.requires.1)))
 
 pub read-register-spec : {M : Type 1} → statement M
 read-register-spec =

@@ -1,21 +1,21 @@
 use borrow.Author.Rules.{rules}
 use borrow.Author.Tests.{eq-eqb, ne_eqb, lt-ltb, le-ltb}
 use native.Mathlib.Nat.{add-sub_cancel_left}
-use Rattle.device.specs.Layout.{regionsIn}
+use Rattle.device.specs.Layout.{regions_in}
 use Rattle.device.proofs.GuardLayout.{regions-part}
 use Rattle.device.proofs.layout.region_words.Statement.{statement}
 use Rattle.device.proofs.layout.region_words.Tie as tie
 
 returns : tie.Need-returns
-unfolding regionsIn
+unfolding regions_in
 returns c = simp (ne_eqb _ _ c.before.if1.true)
 
 returns-2 : tie.Need-returns-2
-unfolding regionsIn
+unfolding regions_in
 returns-2 c = simp (eq-eqb _ _ c.before.before.if1.false, le-ltb _ _ c.before.if2.true)
 
 returns-3 : tie.Need-returns-3
-unfolding regionsIn
+unfolding regions_in
 returns-3 c =
     let a = c.before.before.before.args in
     simp (eq-eqb _ _ c.before.before.if1.false, lt-ltb _ _ c.before.if2.false, add-sub_cancel_left)

@@ -2,7 +2,7 @@ use borrow.Author.Rules.{rules}
 use mathlib.Core.Path.{ap, ◌∙◌}
 use Prim.Native.Nat.{◌<◌}
 use lib.ListN.{length}
-use Rattle.risaf.specs.Guards.{guardCount}
+use Rattle.risaf.specs.Guards.{guard_count}
 use Rattle.risaf.specs.Memory.{faulted}
 use Rattle.risaf.proofs.Shapes.{place-lt}
 use Rattle.device.specs.Layout.{state_of}
@@ -28,7 +28,7 @@ returns-2 c =
     let s = g.before.before in
     let a = s.args in
     let es = g.shape.ensures in
-    let l : g.shape.result.place < guardCount = rw es (place-lt _) in
+    let l : g.shape.result.place < guard_count = rw es (place-lt _) in
     let ew = d.before.region-words.ensures ∙ regions-read a.state.now _ s.requires l in
     memory-granted (state_of a.state.now) a.there a.guard.0 a.o a.width a.k es e.before.before.memory-checked.ensures
     e.enum_told.given.1 ew (ap length ew ∙ regions-length a.state.now _ s.requires l) d.decide.ensures c.if1.true
@@ -61,7 +61,7 @@ returns-3 c =
     let s = g.before.before in
     let a = s.args in
     let es = g.shape.ensures in
-    let l : g.shape.result.place < guardCount = rw es (place-lt _) in
+    let l : g.shape.result.place < guard_count = rw es (place-lt _) in
     let ew = d.before.region-words.ensures ∙ regions-read a.state.now _ s.requires l in
     memory-refused (state_of a.state.now) a.there a.guard.0 a.o a.width a.k es e.before.before.memory-checked.ensures
     e.enum_told.given.1 ew (ap length ew ∙ regions-length a.state.now _ s.requires l) d.decide.ensures b.if1.false

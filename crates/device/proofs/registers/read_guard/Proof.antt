@@ -2,7 +2,7 @@
 use mathlib.Core.Bool.{true}
 use mathlib.Core.Path.{ap, ◌∙◌}
 use lib.Dec.{lit<}
-use Rattle.words.specs.Bit.{withBit}
+use Rattle.words.specs.Bit.{with_bit}
 use Rattle.risaf.specs.declared.memory.Faults.{Faults}
 use Rattle.risaf.proofs.Shapes.{place-lt}
 use Rattle.device.specs.Layout.{state_of}
@@ -28,7 +28,7 @@ returns : tie.Need-returns
 returns c =
     let s = c.before.before.before.before.before.before.before.before.before.before.before.before.before.before.before.before.before in
     let t = state_of s.args.state.now in
-    let e = c.before.before.before.before.before.before.before.with-bit.ensures ∙ ap (λ (f : Faults). withBit 32 f.iasr 0 true) c.before.before.before.before.before.before.before.before.before.load-faults.ensures in
+    let e = c.before.before.before.before.before.before.before.with-bit.ensures ∙ ap (λ (f : Faults). with_bit 32 f.iasr 0 true) c.before.before.before.before.before.before.before.before.before.load-faults.ensures in
     register-read-refused t s.args.guard s.args.q s.requires.1 c.before.before.before.before.before.before.before.before.before.before.before.before.before.before.before.shape.ensures c.before.before.before.before.before.before.before.before.before.before.before.before.before.read-register.ensures c.before.before.before.before.before.before.before.before.before.before.before.enum_told.given.1 e (c.before.before.raise.ensures ∙ ap (flagged _) c.before.before.before.before.before.before.Store-word.ensures)
 
 returns-2 : tie.Need-returns-2

@@ -3,15 +3,15 @@ use Prim.Native.Nat.{ℕ, ◌≤◌, ◌-◌}
 use native.Mathlib.Omega.{arith}
 use borrow.Author.Rules.{rules}
 use lib.ListN.{length}
-use Rattle.device.specs.Layout.{state_of, stateWords}
+use Rattle.device.specs.Layout.{state_of, state_words}
 use Rattle.device.specs.State.{with_guards}
-use Rattle.device.proofs.ResetGuards.{resetBelow, numbers, reset-more, state-reset}
+use Rattle.device.proofs.ResetGuards.{reset_below, numbers, reset-more, state-reset}
 use Rattle.device.proofs.reset.reset.Statement.{statement}
 use Rattle.device.proofs.reset.reset.Tie as tie
 
 abbrev invariant-loop : tie.invariant-loop
 invariant-loop state₀ n₀ state n =
-    (n ≤ numbers) × (length state ≡ stateWords) × (state_of state ≡ with_guards (state_of state₀) (resetBelow n (state_of state₀).guards))
+    (n ≤ numbers) × (length state ≡ state_words) × (state_of state ≡ with_guards (state_of state₀) (reset_below n (state_of state₀).guards))
 
 abbrev decreases-loop : tie.decreases-loop
 decreases-loop state₀ n₀ state n = numbers - n
@@ -31,7 +31,7 @@ returns c =
     let m = u.store-iac.new.0 in
     let r = u.before.before.before.before.before in
     let s = state_of r.before.before.before.before.args.state.now in
-    l.invariant.2 ∙ ap (λ (n : ℕ). with_guards (state_of m) (resetBelow n (state_of m).guards)) e
+    l.invariant.2 ∙ ap (λ (n : ℕ). with_guards (state_of m) (reset_below n (state_of m).guards)) e
     ∙ state-reset m s r.before.reset.ensures r.store-rifsc.ensures u.before.reset2.ensures u.store-iac.ensures
 
 pub reset-spec : {M : Type 1} → statement M

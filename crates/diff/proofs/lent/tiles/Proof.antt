@@ -4,13 +4,13 @@ use Prim.Native.Nat.{◌≤◌, ◌-◌}
 use native.Mathlib.Omega.{arith}
 use lib.ListN.{length, drop}
 use borrow.Author.Rules.{rules}
-use Rattle.diff.specs.Lent.{tilesFrom}
+use Rattle.diff.specs.Lent.{tiles_from}
 use Rattle.diff.proofs.Tiled.{tiles-broken, tiles-on, tiles-end}
 use Rattle.diff.proofs.lent.tiles.Statement.{statement}
 use Rattle.diff.proofs.lent.tiles.Tie as tie
 
 abbrev invariant-loop : tie.invariant-loop
-invariant-loop map window i₀ at₀ i at = (i ≤ length map) × (tilesFrom at window (drop i map) ≡ tilesFrom 0 window map)
+invariant-loop map window i₀ at₀ i at = (i ≤ length map) × (tiles_from at window (drop i map) ≡ tiles_from 0 window map)
 
 abbrev decreases-loop : tie.decreases-loop
 decreases-loop map window i₀ at₀ i at = length map - i

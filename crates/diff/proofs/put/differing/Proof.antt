@@ -3,7 +3,7 @@ use borrow.Author.Rules.{rules}
 use native.Mathlib.Omega.{arith}
 use lib.Bits.{bit_xor, xor_lt}
 use lib.Count.{ones-le}
-use Rattle.diff.specs.Bits.{rightsBits}
+use Rattle.diff.specs.Bits.{rights_bits}
 use Rattle.diff.proofs.Ones.{ones-differ}
 use Rattle.diff.proofs.put.differing.Statement.{statement}
 use Rattle.diff.proofs.put.differing.Tie as tie
@@ -11,7 +11,7 @@ use Rattle.diff.proofs.put.differing.Tie as tie
 cast-result : tie.Need-overflow-cast-result
 cast-result c =
     let a = c.args in
-    let small = ones-le rightsBits (bit_xor a.old a.new) (xor_lt rightsBits a.old a.new (omega arith) (omega arith)) in
+    let small = ones-le rights_bits (bit_xor a.old a.new) (xor_lt rights_bits a.old a.new (omega arith) (omega arith)) in
     search (rules, small)
 
 returns : tie.Need-returns

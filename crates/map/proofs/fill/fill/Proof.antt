@@ -4,7 +4,7 @@ use Rattle.risaf.specs.declared.guards.Shape.{Shape}
 use native.Mathlib.Omega.{arith}
 use borrow.Author.Rules.{rules}
 use borrow.Author.Tests.{eq-eqb, ne_eqb, le-leb, lt-leb, not-true}
-use Rattle.map.specs.Fill.{fillAnswer, fillUsed, fillNumbers}
+use Rattle.map.specs.Fill.{fill_answer, fill_used, fill_numbers}
 use Rattle.map.proofs.Guards.{passed, small, guard-regions}
 use Rattle.map.proofs.Made.{sweepable, made}
 use Rattle.map.proofs.Steady.{size-most}
@@ -12,15 +12,15 @@ use Rattle.map.proofs.fill.fill.Statement.{statement}
 use Rattle.map.proofs.fill.fill.Tie as tie
 
 returns : tie.Need-returns
-unfolding fillAnswer fillUsed fillNumbers
+unfolding fill_answer fill_used fill_numbers
 returns c = simp (ne_eqb _ _ c.if1.true) (refl, (refl, refl))
 
 returns-2 : tie.Need-returns-2
-unfolding fillAnswer fillUsed fillNumbers
+unfolding fill_answer fill_used fill_numbers
 returns-2 c = simp (eq-eqb _ _ c.before.if1.false, lt-leb _ _ c.if2.true) (refl, (refl, refl))
 
 returns-3 : tie.Need-returns-3
-unfolding fillAnswer fillUsed fillNumbers
+unfolding fill_answer fill_used fill_numbers
 returns-3 c =
     let s = c.before.before.shape in
     simp (

@@ -4,28 +4,28 @@ use mathlib.Core.List.{List}
 use Prim.Native.Nat.{ℕ, ◌-◌, ◌≤◌}
 use native.Mathlib.Omega.{arith}
 use borrow.Author.Rules.{rules}
-use Rattle.regions.specs.Rights.{rightsWord}
-use Rattle.regions.specs.Words.{mostRegions}
+use Rattle.regions.specs.Rights.{rights_word}
+use Rattle.regions.specs.Words.{most_regions}
 use Rattle.spans.specs.Sweep.{bounds_of}
 use Rattle.spans.proofs.Sweep.{Turn}
 use Rattle.spans.proofs.Fill.{Swept, swept-begin, swept-turn, swept-end}
-use Rattle.map.specs.Bounds.{pairsOf}
+use Rattle.map.specs.Bounds.{pairs_of}
 use Rattle.map.proofs.Steady.{bounds-most}
-use Rattle.map.proofs.Turns.{Active-from, active-from}
+use Rattle.map.proofs.Turns.{ActiveFrom, active-from}
 use Rattle.map.proofs.fill.sweep.Statement.{statement}
 use Rattle.map.proofs.fill.sweep.Tie as tie
 
 abbrev invariant-loop2 : tie.invariant-loop2
 invariant-loop2 bus w n window lent₀ at₀ count₀ low high to part lent at count =
     (at₀ ≤ at)
-    × ((l : List ℕ) → Swept (rightsWord bus w n) (bounds_of (pairsOf w n)) window l at₀ count₀ lent₀
-    → Swept (rightsWord bus w n) (bounds_of (pairsOf w n)) window l at count lent)
+    × ((l : List ℕ) → Swept (rights_word bus w n) (bounds_of (pairs_of w n)) window l at₀ count₀ lent₀
+    → Swept (rights_word bus w n) (bounds_of (pairs_of w n)) window l at count lent)
 
 abbrev decreases-loop2 : tie.decreases-loop2
 decreases-loop2 bus w n window lent₀ at₀ count₀ low high to part lent at count = to - at
 
 abbrev invariant-loop : tie.invariant-loop
-invariant-loop bus w n window lent₀ at₀ count₀ lent at count = Swept (rightsWord bus w n) (bounds_of (pairsOf w n)) window lent₀ at count lent
+invariant-loop bus w n window lent₀ at₀ count₀ lent at count = Swept (rights_word bus w n) (bounds_of (pairs_of w n)) window lent₀ at count lent
 
 abbrev decreases-loop : tie.decreases-loop
 decreases-loop bus w n window lent₀ at₀ count₀ lent at count = window - at
@@ -36,7 +36,7 @@ loop-holds c = swept-begin _ _ _ _
 -- what the call of `active_at` gives
 from-here : (s : tie.After-active-at invariant-loop2 decreases-loop2 invariant-loop decreases-loop)
     → let a = s.before.before.before.before.before.args in
-    Active-from a.bus a.w.now a.n a.window s.before.before.loop.at s.active-at.result
+    ActiveFrom a.bus a.w.now a.n a.window s.before.before.loop.at s.active-at.result
 from-here s =
     let b = s.before.before.before.before.before in
     active-from b.args.bus b.args.w.now b.args.n b.args.window s.before.before.loop.at b.requires.0 b.requires.1
@@ -44,7 +44,7 @@ from-here s =
 
 fits-part : (s : tie.After-active-at invariant-loop2 decreases-loop2 invariant-loop decreases-loop)
     → let r = s.active-at.result in
-    (r.low ≤ mostRegions) × (r.high ≤ mostRegions)
+    (r.low ≤ most_regions) × (r.high ≤ most_regions)
 fits-part s =
     let r = from-here s in
     let n = s.before.before.before.before.before.requires.0 in
@@ -91,7 +91,7 @@ cast-stretch-at c =
 goes : (s : tie.After-stretch-at invariant-loop2 decreases-loop2 invariant-loop decreases-loop)
     → let l = s.before.before in
     let a = l.before.before.before.before.before.before.before.args in
-    Turn (rightsWord a.bus a.w.now a.n) (bounds_of (pairsOf a.w.now a.n)) a.window l.loop2.at s.stretch-at.result.to
+    Turn (rights_word a.bus a.w.now a.n) (bounds_of (pairs_of a.w.now a.n)) a.window l.loop2.at s.stretch-at.result.to
 goes s =
     let l = s.before.before in
     (from-here l.before.before).turn l.loop2.at l.loop2.invariant.0 s.before.loop2-test.true s.stretch-at.ensures.1

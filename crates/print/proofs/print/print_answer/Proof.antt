@@ -2,7 +2,7 @@
 use borrow.Author.Rules.{rules}
 use native.Mathlib.Omega.{arith}
 use lib.ListN.{length-append}
-use Rattle.print.specs.Print.{answerLine, decimalText}
+use Rattle.print.specs.Print.{answer_line, decimal_text}
 use Rattle.print.proofs.Digits.{answer-length, digits-length}
 use Rattle.print.proofs.Writing.{join, part-ends, refused, whole}
 use Rattle.print.proofs.print.print_answer.Statement.{statement}
@@ -11,12 +11,12 @@ use Rattle.print.proofs.print.print_answer.Tie as tie
 returns : tie.Need-returns
 returns c =
     let a = c.before.before.before.args in
-    refused a.out.now a.at (answerLine a.number a.value) (omega arith)
+    refused a.out.now a.at (answer_line a.number a.value) (omega arith)
 
 returns-2 : tie.Need-returns-2
 returns-2 c =
     let a = c.before.before.before.before.args in
-    refused a.out.now a.at (answerLine a.number a.value) (omega (arith, answer-length a.number a.value))
+    refused a.out.now a.at (answer_line a.number a.value) (omega (arith, answer-length a.number a.value))
 
 put-value-requires : tie.Need-put-value-requires
 put-value-requires c κs =
@@ -25,7 +25,7 @@ put-value-requires c κs =
     omega (arith, simp (length-append, digits-length) at (part-ends (join a.put.ensures d.put-digits.ensures)))
 
 returns-3 : tie.Need-returns-3
-unfolding decimalText answerLine
+unfolding decimal_text answer_line
 returns-3 c =
     rw (← c.before.before.before.before.before.before.before.before.before.before.before.before.before.before.before.width.ensures.0)
     (whole (join (join c.before.before.before.before.before.before.before.before.before.before.put.ensures c.before.before.before.before.before.before.put-digits.ensures) c.before.before.put-value.ensures))

@@ -2,7 +2,7 @@
 use borrow.Author.Rules.{rules}
 use native.Mathlib.Omega.{arith}
 use lib.ListN.{length-append}
-use Rattle.print.specs.Print.{decimalText, diffLine}
+use Rattle.print.specs.Print.{decimal_text, diff_line}
 use Rattle.print.proofs.Digits.{diff-length, digits-length}
 use Rattle.print.proofs.Writing.{join, part-ends, refused, whole}
 use Rattle.print.proofs.print.print_diff.Statement.{statement}
@@ -11,12 +11,12 @@ use Rattle.print.proofs.print.print_diff.Tie as tie
 returns : tie.Need-returns
 returns c =
     let a = c.before.before.before.args in
-    refused a.out.now a.at (diffLine a.start a.end a.old a.new a.count) (omega arith)
+    refused a.out.now a.at (diff_line a.start a.end a.old a.new a.count) (omega arith)
 
 returns-2 : tie.Need-returns-2
 returns-2 c =
     let a = c.before.before.before.before.args in
-    refused a.out.now a.at (diffLine a.start a.end a.old a.new a.count)
+    refused a.out.now a.at (diff_line a.start a.end a.old a.new a.count)
     (omega (arith, diff-length a.start a.end a.old a.new a.count))
 
 put-hex-requires-2 : tie.Need-put-hex-requires-2
@@ -53,7 +53,7 @@ put-digits-requires c κs =
     omega (arith, simp (length-append, digits-length) at (part-ends w), l.before.before.before.if2.false, l.before.before.before.before.if1.false)
 
 returns-3 : tie.Need-returns-3
-unfolding decimalText diffLine
+unfolding decimal_text diff_line
 returns-3 c =
     let d = c.before.before in
     let n = d.before.before.before.before in

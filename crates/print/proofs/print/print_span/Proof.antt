@@ -2,7 +2,7 @@
 use borrow.Author.Rules.{rules}
 use native.Mathlib.Omega.{arith}
 use lib.ListN.{length-append}
-use Rattle.print.specs.Print.{spanLine}
+use Rattle.print.specs.Print.{span_line}
 use Rattle.print.proofs.Digits.{digits-length, span-length}
 use Rattle.print.proofs.Writing.{join, part-ends, refused, whole}
 use Rattle.print.proofs.print.print_span.Statement.{statement}
@@ -11,13 +11,13 @@ use Rattle.print.proofs.print.print_span.Tie as tie
 returns : tie.Need-returns
 returns c =
     let a = c.before.before.args in
-    refused a.out.now a.at (spanLine a.start a.end a.rights)
+    refused a.out.now a.at (span_line a.start a.end a.rights)
     (omega (arith, span-length a.start a.end a.rights))
 
 returns-2 : tie.Need-returns-2
 returns-2 c =
     let a = c.before.before.before.args in
-    refused a.out.now a.at (spanLine a.start a.end a.rights)
+    refused a.out.now a.at (span_line a.start a.end a.rights)
     (omega (arith, span-length a.start a.end a.rights))
 
 put-hex-requires-2 : tie.Need-put-hex-requires-2
@@ -35,7 +35,7 @@ put-rights-requires c κs =
     omega (arith, simp (length-append, digits-length) at (part-ends w), a.before.before.before.if2.false, a.before.before.before.before.if1.false)
 
 returns-3 : tie.Need-returns-3
-unfolding spanLine
+unfolding span_line
 returns-3 c =
     whole
     (join

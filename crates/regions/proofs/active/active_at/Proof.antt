@@ -4,7 +4,7 @@ use borrow.Author.Tests.{lt-leb, le-leb}
 use mathlib.Core.Path.{◌≡◌, refl, ap, ◌∙◌}
 use Prim.Native.Nat.{ℕ, ◌≤◌, ◌-◌}
 use native.Mathlib.Omega.{arith}
-use Rattle.regions.specs.Active.{active, activeIn}
+use Rattle.regions.specs.Active.{active, active_in}
 use Rattle.regions.proofs.Enabled.{told_none}
 use Rattle.regions.proofs.Inactive.{active-more, unenabled-inactive}
 use Rattle.regions.proofs.active.active_at.Statement.{statement}
@@ -17,15 +17,15 @@ abbrev decreases-loop : tie.decreases-loop
 decreases-loop w n o to a₀ x₀ a x = n - x
 
 returns : tie.Need-returns invariant-loop decreases-loop
-unfolding activeIn
+unfolding active_in
 returns c = simp (lt-leb _ _ c.if1.true)
 
 returns-2 : tie.Need-returns-2 invariant-loop decreases-loop
-unfolding activeIn
+unfolding active_in
 returns-2 c = simp (le-leb _ _ c.before.if1.false, lt-leb _ _ c.if2.true)
 
 returns-3 : tie.Need-returns-3 invariant-loop decreases-loop
-unfolding activeIn
+unfolding active_in
 returns-3 c =
     let l = c.before.before.before in
     let a = l.before.before.before.args in
@@ -40,7 +40,7 @@ loop-again : tie.Need-loop-preserved invariant-loop decreases-loop
 loop-again c = (search rules, active-more _ _ _ _ c.before.before.loop.invariant.1 c.with-region.ensures)
 
 returns-4 : tie.Need-returns-4 invariant-loop decreases-loop
-unfolding activeIn
+unfolding active_in
 returns-4 c =
     let i = c.before.loop in
     let l = c.before.before.before in

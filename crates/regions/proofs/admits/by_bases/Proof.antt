@@ -1,10 +1,10 @@
 use mathlib.Core.Path.{refl}
-use Rattle.regions.specs.Admits.{byBases}
+use Rattle.regions.specs.Admits.{by_bases}
 use Rattle.regions.proofs.admits.by_bases.Statement.{statement}
 use Rattle.regions.proofs.admits.by_bases.Tie as tie
 
 returns : tie.Need-returns
-unfolding byBases
+unfolding by_bases
 returns c = refl
 
 pub by-bases-spec : {M : Type 1} → statement M

@@ -5,13 +5,13 @@ use Prim.Native.Nat.{◌≤◌, ◌-◌}
 use native.Mathlib.Omega.{arith}
 use Rattle.words.specs.Bit.{bit}
 use Rattle.words.proofs.Laws.{bit-zero}
-use Rattle.regions.specs.Masks.{someEnabled}
+use Rattle.regions.specs.Masks.{some_enabled}
 use Rattle.regions.proofs.Enabled.{enabled-more}
 use Rattle.regions.proofs.masks.none_enabled.Statement.{statement}
 use Rattle.regions.proofs.masks.none_enabled.Tie as tie
 
 abbrev invariant-loop : tie.invariant-loop
-invariant-loop w some₀ x₀ some x = (x ≤ 11) × (bit some 0 ≡ someEnabled w x)
+invariant-loop w some₀ x₀ some x = (x ≤ 11) × (bit some 0 ≡ some_enabled w x)
 
 abbrev decreases-loop : tie.decreases-loop
 decreases-loop w some₀ x₀ some x = 11 - x
@@ -29,7 +29,7 @@ returns : tie.Need-returns invariant-loop decreases-loop
 returns c =
     let l = c.before.loop in
     let e : l.x ≡ 11 = omega (arith, l.invariant.0, c.loop-test.false) in
-    ap not (l.invariant.1 ∙ ap (someEnabled c.before.before.args.w.now) e)
+    ap not (l.invariant.1 ∙ ap (some_enabled c.before.before.args.w.now) e)
 
 pub none-enabled-spec : {M : Type 1} → statement M
 none-enabled-spec =

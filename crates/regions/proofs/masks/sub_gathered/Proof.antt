@@ -1,15 +1,15 @@
 use borrow.Author.Rules.{rules}
 use borrow.Author.Tests.{not-true, not-false}
-use Rattle.regions.specs.Masks.{subGathered}
+use Rattle.regions.specs.Masks.{sub_gathered}
 use Rattle.regions.proofs.masks.sub_gathered.Statement.{statement}
 use Rattle.regions.proofs.masks.sub_gathered.Tie as tie
 
 returns : tie.Need-returns
-unfolding subGathered
+unfolding sub_gathered
 returns c = simp (← c.before.covers.ensures, not-true c.before.covers.result c.if1.true)
 
 returns-2 : tie.Need-returns-2
-unfolding subGathered
+unfolding sub_gathered
 returns-2 c =
     let t = c.before.before.before in
     let s = t.before in
@@ -17,7 +17,7 @@ returns-2 c =
     simp (t.if2.true, ← e.before.covers.ensures, not-false e.before.covers.result e.if1.false, ← s.serving.ensures) c.with-sub-privileged.ensures
 
 returns-3 : tie.Need-returns-3
-unfolding subGathered
+unfolding sub_gathered
 returns-3 c =
     let t = c.before.before.before in
     let s = t.before in

@@ -6,7 +6,7 @@ use native.Mathlib.Omega.{arith}
 use lib.ListN.{length, take}
 use lib.Seq.{take_all}
 use Rattle.access.specs.declared.kind.Kind.{Kind}
-use Rattle.regions.specs.Admits.{byAsked, packed, verdictOf}
+use Rattle.regions.specs.Admits.{by_asked, packed, verdict_of}
 use Rattle.regions.specs.Masks.{masks, serving}
 use Rattle.regions.specs.declared.admits.Admits.{Admits}
 use Rattle.regions.specs.declared.masks.Served.{Served}
@@ -32,7 +32,7 @@ mul-result c =
     let j = c.before in
     let a = j.before.before.before.before.before.before.args in
     let k : Kind = record { cid = a.cid; write = a.write; privileged = a.privileged; secure = a.secure } in
-    let e = asked-most _ _ k (j.judged.ensures ∙ ap (λ (x : Admits). verdictOf x k) j.before.by-asked.ensures) in
+    let e = asked-most _ _ k (j.judged.ensures ∙ ap (λ (x : Admits). verdict_of x k) j.before.by-asked.ensures) in
     search (rules, e.1)
 
 add-result : tie.Need-overflow-add-result
@@ -40,7 +40,7 @@ add-result c =
     let j = c.before.before in
     let a = j.before.before.before.before.before.before.args in
     let k : Kind = record { cid = a.cid; write = a.write; privileged = a.privileged; secure = a.secure } in
-    let e = asked-most _ _ k (j.judged.ensures ∙ ap (λ (x : Admits). verdictOf x k) j.before.by-asked.ensures) in
+    let e = asked-most _ _ k (j.judged.ensures ∙ ap (λ (x : Admits). verdict_of x k) j.before.by-asked.ensures) in
     search (rules, e.0, e.1)
 
 returns : tie.Need-returns
@@ -51,9 +51,9 @@ returns c =
     let k : Kind = record { cid = a.cid; write = a.write; privileged = a.privileged; secure = a.secure } in
     ap packed
     (j.judged.ensures
-    ∙ ap (λ (x : Admits). verdictOf x k)
+    ∙ ap (λ (x : Admits). verdict_of x k)
     (j.before.by-asked.ensures
-    ∙ ap (byAsked a.den)
+    ∙ ap (by_asked a.den)
     (g.gathered.ensures
     ∙ ap₂ (λ (by : Served) (w : List ℕ). masks a.privileged (serving by) w a.n a.o) g.before.served-by.ensures (whole a.w.now))))
 

@@ -5,23 +5,23 @@ use borrow.Author.Tests.{lt-leb, le-leb}
 use Rattle.access.proofs.Heard.{heard-cid}
 use Rattle.access.specs.declared.kind.Kind.{Kind}
 use Rattle.regions.specs.Admits.{governed}
-use Rattle.regions.specs.Lent.{decidedIn}
-use Rattle.regions.specs.Rules.{reasonOf, tests0}
+use Rattle.regions.specs.Lent.{decided_in}
+use Rattle.regions.specs.Rules.{reason_of, tests0}
 use Rattle.regions.proofs.Askings.{zero_default, packed-decided}
 use Rattle.regions.proofs.Enough.{decided-enough}
 use Rattle.regions.proofs.rules.decide.Statement.{statement}
 use Rattle.regions.proofs.rules.decide.Tie as tie
 
 returns : tie.Need-returns
-unfolding decidedIn
+unfolding decided_in
 returns c = simp (lt-leb _ _ c.if1.true)
 
 returns-2 : tie.Need-returns-2
-unfolding decidedIn
+unfolding decided_in
 returns-2 c = simp (le-leb _ _ c.before.if1.false, lt-leb _ _ c.if2.true)
 
 returns-3 : tie.Need-returns-3
-unfolding decidedIn
+unfolding decided_in
 returns-3 c =
     let b = c.before.before.before in
     simp (le-leb _ _ b.before.if1.false, le-leb _ _ b.if2.false, lt-leb _ _ c.if3.true)
@@ -46,7 +46,7 @@ returns-4 c =
     let a = b.before.before.before.args in
     zero_default a.bus a.w.now a.n a.o a.k
     (ap (governed a.w.now a.n a.o) (sym e.hears.ensures) ∙ sym g.governed.ensures ∙ c.before.if4.true)
-    (c.default-reason.ensures ∙ ap (λ (k : Kind). reasonOf (tests0 a.bus k)) e.hears.ensures)
+    (c.default-reason.ensures ∙ ap (λ (k : Kind). reason_of (tests0 a.bus k)) e.hears.ensures)
     ∙ sym (decided-enough a.bus a.w.now a.n a.o b.before.if1.false b.if2.false a.k e.before.if3.false)
 
 returns-5 : tie.Need-returns-5

@@ -1,10 +1,10 @@
 use borrow.Author.Rules.{rules}
-use Rattle.regions.specs.Admits.{verdictOf}
+use Rattle.regions.specs.Admits.{verdict_of}
 use Rattle.regions.proofs.rules.judged.Statement.{statement}
 use Rattle.regions.proofs.rules.judged.Tie as tie
 
 returns : tie.Need-returns
-unfolding verdictOf
+unfolding verdict_of
 returns c = simp c.reason.ensures
 
 pub judged-spec : {M : Type 1} → statement M

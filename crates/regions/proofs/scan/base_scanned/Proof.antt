@@ -2,24 +2,24 @@
 use mathlib.Core.Path.{refl}
 use borrow.Author.Rules.{rules}
 use borrow.Author.Tests.{eq-eqb, ne_eqb, lt-ltb, le-ltb, lt-leb, le-leb}
-use Rattle.regions.specs.Ahead.{baseAhead}
-use Rattle.regions.specs.Masks.{baseGathered}
+use Rattle.regions.specs.Ahead.{base_ahead}
+use Rattle.regions.specs.Masks.{base_gathered}
 use Rattle.regions.proofs.scan.base_scanned.Statement.{statement}
 use Rattle.regions.proofs.scan.base_scanned.Tie as tie
 
 returns : tie.Need-returns
-unfolding baseGathered baseAhead
+unfolding base_gathered base_ahead
 returns c = simp (ne_eqb _ _ c.if1.true) (refl, refl)
 
 returns-2 : tie.Need-returns-2
-unfolding baseGathered baseAhead
+unfolding base_gathered base_ahead
 returns-2 c =
     let b = c.before.before.before in
     simp (eq-eqb _ _ b.before.before.if1.false, lt-ltb _ _ b.if2.true, lt-leb _ _ b.if2.true)
     (refl, c.start-ahead.ensures)
 
 returns-3 : tie.Need-returns-3
-unfolding baseGathered baseAhead
+unfolding base_gathered base_ahead
 returns-3 c =
     let b = c.before.before in
     simp (
@@ -32,7 +32,7 @@ returns-3 c =
     (refl, refl)
 
 returns-4 : tie.Need-returns-4
-unfolding baseGathered baseAhead
+unfolding base_gathered base_ahead
 returns-4 c =
     let d = c.before in
     let b = d.before.before in

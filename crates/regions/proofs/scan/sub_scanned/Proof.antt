@@ -2,7 +2,7 @@
 use mathlib.Core.Path.{◌∙◌}
 use borrow.Author.Rules.{rules}
 use borrow.Author.Tests.{eq-eqb, ne_eqb}
-use Rattle.regions.specs.Ahead.{subAhead}
+use Rattle.regions.specs.Ahead.{sub_ahead}
 use Rattle.regions.specs.Words.{sub}
 use Rattle.regions.proofs.Gathered.{sub_out, sub_in}
 use Rattle.regions.proofs.Lies.{ahead-off, ahead_before, ahead_past, ahead-inside}
@@ -10,14 +10,14 @@ use Rattle.regions.proofs.scan.sub_scanned.Statement.{statement}
 use Rattle.regions.proofs.scan.sub_scanned.Tie as tie
 
 returns : tie.Need-returns
-unfolding subAhead
+unfolding sub_ahead
 returns c =
     let a = c.before.before.before.args in
     let e = ahead-off a.w.now (sub a.x a.s) a.o (λ t. t) a.scan.to (ne_eqb _ _ c.if1.true) in
     (sub_out _ _ _ _ _ _ _ e.1, e.0)
 
 returns-2 : tie.Need-returns-2
-unfolding subAhead
+unfolding sub_ahead
 returns-2 c =
     let a = c.before.before.before.before.before.before.before.before.args in
     let b = c.before.before.before in
@@ -26,7 +26,7 @@ returns-2 c =
     (sub_out _ _ _ _ _ _ _ e.1, c.start-ahead.ensures ∙ e.0)
 
 returns-3 : tie.Need-returns-3
-unfolding subAhead
+unfolding sub_ahead
 returns-3 c =
     let a = c.before.before.before.before.before.before.before.args in
     let b = c.before.before in
@@ -35,7 +35,7 @@ returns-3 c =
     (sub_out _ _ _ _ _ _ _ e.1, e.0)
 
 returns-4 : tie.Need-returns-4
-unfolding subAhead
+unfolding sub_ahead
 returns-4 c =
     let a = c.before.before.before.before.before.before.before.before.before.before.before.before.before.before.args in
     let r = c.before.before in

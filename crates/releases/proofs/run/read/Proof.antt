@@ -2,7 +2,7 @@ use borrow.Author.Rules.{rules}
 use mathlib.Core.Path.{◌≡◌}
 use Prim.Native.Nat.{◌≤◌}
 use lib.ListN.{length}
-use Rattle.stream.specs.Kept.{lineRoom}
+use Rattle.stream.specs.Kept.{line_room}
 use Rattle.stream.proofs.Given.{start-few}
 use Rattle.releases.proofs.run.read.Statement.{statement}
 use Rattle.releases.proofs.run.read.Tie as tie
@@ -10,7 +10,7 @@ use Rattle.releases.proofs.run.read.Tie as tie
 abbrev invariant-loop : tie.invariant-loop
 invariant-loop path fd state₀ block₀ line₀ out₀ going₀ turns₀ state block line out going turns =
     (length state ≡ length state₀) × (length block ≡ length block₀) × (length line ≡ length line₀) × (length out ≡ length out₀)
-    × (going.held.bytes ≤ lineRoom)
+    × (going.held.bytes ≤ line_room)
 
 abbrev decreases-loop : tie.decreases-loop
 decreases-loop path fd state₀ block₀ line₀ out₀ going₀ turns₀ state block line out going turns = turns

@@ -2,13 +2,13 @@ use borrow.Author.Rules.{rules}
 use mathlib.Core.Path.{◌≡◌}
 use Prim.Native.Nat.{◌-◌, ◌≤◌}
 use lib.ListN.{length}
-use Rattle.stream.specs.Kept.{lineRoom}
+use Rattle.stream.specs.Kept.{line_room}
 use Rattle.releases.proofs.run.take_block.Statement.{statement}
 use Rattle.releases.proofs.run.take_block.Tie as tie
 
 abbrev invariant-loop : tie.invariant-loop
 invariant-loop path state₀ block line₀ out₀ place₀ state line out place =
-    (length state ≡ length state₀) × (length line ≡ length line₀) × (length out ≡ length out₀) × (place.held.bytes ≤ lineRoom)
+    (length state ≡ length state₀) × (length line ≡ length line₀) × (length out ≡ length out₀) × (place.held.bytes ≤ line_room)
     × (place.from ≤ length block)
 
 abbrev decreases-loop : tie.decreases-loop

@@ -4,7 +4,7 @@ use Prim.Native.Nat.{◌<◌}
 use native.Mathlib.Omega.{arith}
 use lib.ListN.{length}
 use mathlib.Core.Path.{refl}
-use Rattle.stream.specs.Kept.{keptOf}
+use Rattle.stream.specs.Kept.{kept_of}
 use Rattle.stream.proofs.Given.{left-few, left-size, some-taken, took-most}
 use Rattle.stream.proofs.Turns.{part}
 use Rattle.releases.proofs.run.take_part.Statement.{statement}
@@ -14,7 +14,7 @@ add-t16 : tie.Need-overflow-add-t16
 add-t16 c =
     let start = c.before.before.before.before.before.before.before.before.before.before.before.before.before.before.before.before.before.before.before.before in
     let a = start.args in
-    let k = keptOf a.place.held a.line.now a.state.now in
+    let k = kept_of a.place.held a.line.now a.state.now in
     let b = part a.place.from (length a.block.now) a.block.now in
     let most = took-most k b a.out.now 0 c.before.before.before.before.before.before.before.before.before.take.ensures.0 in
     search (rules, most, left-size a.block.now a.place.from, start.requires.3)
@@ -23,7 +23,7 @@ returns : tie.Need-returns
 returns c =
     let start = c.before.before.before.before.before.before.before.before.before.before.before.before.before.before.before.before.before.before.before.before.before.before in
     let a = start.args in
-    let k = keptOf a.place.held a.line.now a.state.now in
+    let k = kept_of a.place.held a.line.now a.state.now in
     let b = part a.place.from (length a.block.now) a.block.now in
     let e = c.before.before.before.before.before.before.before.before.before.before.before.take.ensures.0 in
     let size = left-size a.block.now a.place.from in

@@ -5,14 +5,14 @@ use mathlib.Core.Path.{◌≡◌, refl, ◌∙◌}
 use Prim.Native.Nat.{◌≤◌, ◌-◌}
 use lib.ListN.{length}
 use Rattle.print.specs.Parts.{Wrote}
-use Rattle.spans.specs.Rows.{rowsIn}
-use Rattle.response.specs.Sheet.{spanLines}
+use Rattle.spans.specs.Rows.{rows_in}
+use Rattle.response.specs.Sheet.{span_lines}
 use Rattle.response.proofs.Written.{no_rows, one-row, rows-length, same_count}
 use Rattle.response.proofs.sheet.put_rows.Statement.{statement}
 use Rattle.response.proofs.sheet.put_rows.Tie as tie
 
 abbrev invariant-loop : tie.invariant-loop
-invariant-loop out₀ at map count p₀ k₀ out p k = Wrote out₀ at (spanLines (rowsIn k map)) out p × (length out ≡ length out₀) × (k ≤ count)
+invariant-loop out₀ at map count p₀ k₀ out p k = Wrote out₀ at (span_lines (rows_in k map)) out p × (length out ≡ length out₀) × (k ≤ count)
 
 abbrev decreases-loop : tie.decreases-loop
 decreases-loop out₀ at map count p₀ k₀ out p k = count - k

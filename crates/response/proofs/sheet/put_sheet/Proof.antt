@@ -3,8 +3,8 @@ use borrow.Author.Rules.{rules}
 use native.Mathlib.Omega.{arith}
 use Prim.Native.Nat.{◌/◌}
 use lib.ListN.{length}
-use Rattle.map.specs.Fill.{rowNumbers}
-use Rattle.response.proofs.Sheets.{end_line, guard-line, guard-most, sheet-lines}
+use Rattle.map.specs.Fill.{row_numbers}
+use Rattle.response.proofs.Sheets.{end-line, guard-line, guard-most, sheet-lines}
 use Rattle.response.proofs.Written.{rows-length}
 use Rattle.response.proofs.sheet.put_sheet.Statement.{statement}
 use Rattle.response.proofs.sheet.put_sheet.Tie as tie
@@ -23,9 +23,9 @@ returns c =
     let q = c.before.before.before.before.before.before.put-rows in
     let r = c.before.before.print-end in
     let g = guard-line a.args.guard.0 (omega arith) (omega (arith, a.requires.0)) p.ensures.0 p.ensures.1 in
-    let count = length a.args.map.now / rowNumbers in
+    let count = length a.args.map.now / row_numbers in
     sheet-lines a.args.guard.0 count a.args.map.now g q.ensures
-    (end_line count (omega (arith, a.requires.1))
+    (end-line count (omega (arith, a.requires.1))
     (omega (arith, g.next, guard-most a.args.guard.0 (omega arith), p.auto.0, q.auto.0, q.ensures.next, rows-length count a.args.map.now, a.requires.0, a.requires.1))
     r.ensures.0 r.ensures.1)
 

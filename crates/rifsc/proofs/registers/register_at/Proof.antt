@@ -6,7 +6,7 @@ use Prim.Native.Nat.{ℕ, ◌≤◌}
 use native.Mathlib.Omega.{arith}
 use lib.Dec.{leb}
 use Rattle.access.specs.Offset.{within}
-use Rattle.rifsc.specs.Registers.{registerAt}
+use Rattle.rifsc.specs.Registers.{register_at}
 use Rattle.rifsc.specs.declared.registers.Register.TheVariants.{Unknown}
 use Rattle.rifsc.proofs.registers.register_at.Statement.{statement}
 use Rattle.rifsc.proofs.registers.register_at.Tie as tie
@@ -25,8 +25,8 @@ Outside o =
     (0x010 ≤ o → o ≤ 0x027 → ⊥) × (0x030 ≤ o → o ≤ 0x047 → ⊥) × (0x050 ≤ o → o ≤ 0x067 → ⊥)
     × (0xc10 ≤ o → o ≤ 0xc43 → ⊥) × (0xfb0 ≤ o → o ≤ 0xfc7 → ⊥)
 
-none : (o : ℕ) → (o ≡ 0x000 → ⊥) → (o ≡ 0xc00 → ⊥) → Outside o → Unknown ≡ registerAt o
-unfolding registerAt
+none : (o : ℕ) → (o ≡ 0x000 → ⊥) → (o ≡ 0xc00 → ⊥) → Outside o → Unknown ≡ register_at o
+unfolding register_at
 none o y z h =
     simp (
       ne_eqb o 0x000 y,
@@ -39,22 +39,22 @@ none o y z h =
     )
 
 returns : tie.Need-returns
-unfolding registerAt
+unfolding register_at
 returns c = simp c.match.keys1
 
 returns-2 : tie.Need-returns-2
-unfolding registerAt
+unfolding register_at
 returns-2 c = simp c.match.keys2
 
 returns-3 : tie.Need-returns-3
-unfolding registerAt
+unfolding register_at
 returns-3 c =
     let b = c.before.before.before in
     let o = b.before.args.offset in
     simp (ne_eqb o 0x000 b.match.rest.0.1, le-leb 0x010 o (omega arith), le-leb o 0x027 (omega arith))
 
 returns-4 : tie.Need-returns-4
-unfolding registerAt
+unfolding register_at
 returns-4 c =
     let b = c.before.before.before.before.before in
     let o = b.before.args.offset in
@@ -67,7 +67,7 @@ returns-4 c =
     )
 
 returns-5 : tie.Need-returns-5
-unfolding registerAt
+unfolding register_at
 returns-5 c =
     let b = c.before.before.before.before.before.before in
     let o = b.before.args.offset in
@@ -81,7 +81,7 @@ returns-5 c =
     )
 
 returns-6 : tie.Need-returns-6
-unfolding registerAt
+unfolding register_at
 returns-6 c =
     let b = c.before.before.before in
     let o = b.before.args.offset in
@@ -97,7 +97,7 @@ returns-6 c =
     )
 
 returns-7 : tie.Need-returns-7
-unfolding registerAt
+unfolding register_at
 returns-7 c =
     let b = c.before.before.before.before.before in
     let o = b.before.args.offset in

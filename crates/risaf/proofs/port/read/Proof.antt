@@ -2,7 +2,7 @@
 use mathlib.Core.Path.{◌≡◌, ◌∙◌, refl, sym, ap}
 use Prim.Native.Nat.{◌%◌}
 use borrow.Author.Tests.{eq-eqb, ne_eqb, not-true, not-false}
-use Rattle.risaf.specs.Port.{readAnswer, readReached}
+use Rattle.risaf.specs.Port.{read_answer, read_reached}
 use Rattle.risaf.specs.Rows.{Placed, row_of}
 use Rattle.risaf.proofs.PortLaws.{reading}
 use Rattle.risaf.proofs.RegisterMap.{register-placed}
@@ -11,12 +11,12 @@ use Rattle.risaf.proofs.port.read.Statement.{statement}
 use Rattle.risaf.proofs.port.read.Tie as tie
 
 returns : tie.Need-returns
-unfolding readAnswer
+unfolding read_answer
 returns c =
     simp (not-true c.before.before.before.args.shape.there c.if1.true)
 
 returns-2 : tie.Need-returns-2
-unfolding readAnswer
+unfolding read_answer
 returns-2 c =
     let a = c.before.before.before.before.before.args in
     simp (not-false a.shape.there c.before.before.if1.false, ne_eqb (a.q.offset % 4) 0 c.if2.true)
@@ -50,7 +50,7 @@ returns-5 c =
     reading a.shape a.w.now a.q (not-false a.shape.there c.before.before.before.before.before.before.before.before.if1.false) c.before.before.before.before.before.before.if2.false c.before.before.before.before.before.register-at.ensures (c.before.row3.ensures ∙ rw c.before.before.before.reg3.given.1 refl) c.read3.ensures
 
 returns-6 : tie.Need-returns-6
-unfolding row_of readReached
+unfolding row_of read_reached
 returns-6 c =
     let a = c.before.before.before.before.before.before.before.before.args in
     reading a.shape a.w.now a.q (not-false a.shape.there c.before.before.before.before.before.if1.false) c.before.before.before.if2.false c.before.before.register-at.ensures (ap row_of (sym c.enum_told.given.1)) refl

@@ -1,26 +1,26 @@
 use borrow.Author.Rules.{rules}
 use native.Mathlib.Omega.{arith}
 use mathlib.Core.Path.{sym, ap}
-use Rattle.risaf.specs.Registers.{regionRegister}
+use Rattle.risaf.specs.Registers.{region_register}
 use Rattle.risaf.proofs.RegisterMap.{region-a, region-b, region-low, region-high}
 use Rattle.risaf.proofs.registers.region_register.Statement.{statement}
 use Rattle.risaf.proofs.registers.region_register.Tie as tie
 
 returns : tie.Need-returns
-unfolding regionRegister
-returns c = sym (ap (regionRegister c.before.args.x) c.match.keys1)
+unfolding region_register
+returns c = sym (ap (region_register c.before.args.x) c.match.keys1)
 
 returns-2 : tie.Need-returns-2
-unfolding regionRegister
-returns-2 c = sym (ap (regionRegister c.before.args.x) c.match.keys2)
+unfolding region_register
+returns-2 c = sym (ap (region_register c.before.args.x) c.match.keys2)
 
 returns-3 : tie.Need-returns-3
-unfolding regionRegister
-returns-3 c = sym (ap (regionRegister c.before.args.x) c.match.keys3)
+unfolding region_register
+returns-3 c = sym (ap (region_register c.before.args.x) c.match.keys3)
 
 returns-4 : tie.Need-returns-4
-unfolding regionRegister
-returns-4 c = sym (ap (regionRegister c.before.args.x) c.match.keys4)
+unfolding region_register
+returns-4 c = sym (ap (region_register c.before.args.x) c.match.keys4)
 
 returns-5 : tie.Need-returns-5
 returns-5 c = region-a _ _ (omega arith) (omega arith) c.sub-register.ensures

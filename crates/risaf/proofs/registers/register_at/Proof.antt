@@ -1,29 +1,29 @@
 use borrow.Author.Rules.{rules}
 use mathlib.Core.Path.{sym, ap, ◌∙◌}
-use Rattle.risaf.specs.Registers.{registerAt}
+use Rattle.risaf.specs.Registers.{register_at}
 use Rattle.risaf.proofs.RegisterMap.{region-at}
 use Rattle.risaf.proofs.registers.register_at.Statement.{statement}
 use Rattle.risaf.proofs.registers.register_at.Tie as tie
 
 returns : tie.Need-returns
-unfolding registerAt
-returns c = sym (ap (registerAt c.before.args.n) c.match.keys1)
+unfolding register_at
+returns c = sym (ap (register_at c.before.args.n) c.match.keys1)
 
 returns-2 : tie.Need-returns-2
-unfolding registerAt
-returns-2 c = sym (ap (registerAt c.before.args.n) c.match.keys2)
+unfolding register_at
+returns-2 c = sym (ap (register_at c.before.args.n) c.match.keys2)
 
 returns-3 : tie.Need-returns-3
-unfolding registerAt
-returns-3 c = sym (ap (registerAt c.before.args.n) c.match.keys3)
+unfolding register_at
+returns-3 c = sym (ap (register_at c.before.args.n) c.match.keys3)
 
 returns-4 : tie.Need-returns-4
-unfolding registerAt
-returns-4 c = sym (ap (registerAt c.before.args.n) c.match.keys4)
+unfolding register_at
+returns-4 c = sym (ap (register_at c.before.args.n) c.match.keys4)
 
 returns-5 : tie.Need-returns-5
-unfolding registerAt
-returns-5 c = sym (ap (registerAt c.before.args.n) c.match.keys5)
+unfolding register_at
+returns-5 c = sym (ap (register_at c.before.args.n) c.match.keys5)
 
 returns-6 : tie.Need-returns-6
 returns-6 c =

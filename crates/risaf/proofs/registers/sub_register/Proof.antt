@@ -1,24 +1,24 @@
 use mathlib.Core.Path.{sym, ap}
-use Rattle.risaf.specs.Registers.{subRegister}
+use Rattle.risaf.specs.Registers.{sub_register}
 use Rattle.risaf.proofs.RegisterMap.{sub-other}
 use Rattle.risaf.proofs.registers.sub_register.Statement.{statement}
 use Rattle.risaf.proofs.registers.sub_register.Tie as tie
 
 returns : tie.Need-returns
-unfolding subRegister
-returns c = sym (ap (subRegister c.before.args.x c.before.args.s) c.match.keys1)
+unfolding sub_register
+returns c = sym (ap (sub_register c.before.args.x c.before.args.s) c.match.keys1)
 
 returns-2 : tie.Need-returns-2
-unfolding subRegister
-returns-2 c = sym (ap (subRegister c.before.args.x c.before.args.s) c.match.keys2)
+unfolding sub_register
+returns-2 c = sym (ap (sub_register c.before.args.x c.before.args.s) c.match.keys2)
 
 returns-3 : tie.Need-returns-3
-unfolding subRegister
-returns-3 c = sym (ap (subRegister c.before.args.x c.before.args.s) c.match.keys3)
+unfolding sub_register
+returns-3 c = sym (ap (sub_register c.before.args.x c.before.args.s) c.match.keys3)
 
 returns-4 : tie.Need-returns-4
-unfolding subRegister
-returns-4 c = sym (ap (subRegister c.before.args.x c.before.args.s) c.match.keys4)
+unfolding sub_register
+returns-4 c = sym (ap (sub_register c.before.args.x c.before.args.s) c.match.keys4)
 
 returns-5 : tie.Need-returns-5
 returns-5 c =

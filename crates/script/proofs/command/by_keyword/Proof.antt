@@ -5,7 +5,7 @@ use native.Mathlib.Omega.{arith}
 use lib.Dec.{eqb, lit≤}
 use lib.ListN.{length}
 use Rattle.print.specs.Bytes.{bytes}
-use Rattle.script.specs.Command.{byKeyword, lines_of}
+use Rattle.script.specs.Command.{by_keyword, lines_of}
 use Rattle.script.specs.Fields.{same}
 use Rattle.script.specs.Numbers.{every}
 use Rattle.script.proofs.Keywords.{line-by, line-next, reset-is, no_line}
@@ -18,7 +18,7 @@ unfolding every
 memory-requires c κs = line-next _ (bytes "mem") refl (told c.before.begins.ensures c.if1.true)
 
 returns : tie.Need-returns
-unfolding byKeyword lines_of same every
+unfolding by_keyword lines_of same every
 returns c = c.memory.ensures ∙ sym (line-by _ (bytes "mem") refl (told c.before.before.begins.ensures c.before.if1.true))
 
 register-requires : tie.Need-register-requires
@@ -26,7 +26,7 @@ unfolding every
 register-requires c κs = line-next _ (bytes "reg") refl (told c.before.begins2.ensures c.if2.true)
 
 returns-2 : tie.Need-returns-2
-unfolding byKeyword lines_of same every
+unfolding by_keyword lines_of same every
 returns-2 c = c.register.ensures ∙ sym (line-by _ (bytes "reg") refl (told c.before.before.begins2.ensures c.before.if2.true))
 
 peripheral-requires : tie.Need-peripheral-requires
@@ -34,7 +34,7 @@ unfolding every
 peripheral-requires c κs = line-next _ (bytes "per") refl (told c.before.begins3.ensures c.if3.true)
 
 returns-3 : tie.Need-returns-3
-unfolding byKeyword lines_of same every
+unfolding by_keyword lines_of same every
 returns-3 c = c.peripheral.ensures ∙ sym (line-by _ (bytes "per") refl (told c.before.before.begins3.ensures c.before.if3.true))
 
 master-requires : tie.Need-master-requires
@@ -42,7 +42,7 @@ unfolding every
 master-requires c κs = line-next _ (bytes "dma") refl (told c.before.begins4.ensures c.if4.true)
 
 returns-4 : tie.Need-returns-4
-unfolding byKeyword lines_of same every
+unfolding by_keyword lines_of same every
 returns-4 c = c.master.ensures ∙ sym (line-by _ (bytes "dma") refl (told c.before.before.begins4.ensures c.before.if4.true))
 
 map-requires : tie.Need-map-requires
@@ -50,7 +50,7 @@ unfolding every
 map-requires c κs = line-next _ (bytes "map") refl (told c.before.begins5.ensures c.if5.true)
 
 returns-5 : tie.Need-returns-5
-unfolding byKeyword lines_of same every
+unfolding by_keyword lines_of same every
 returns-5 c = c.map.ensures ∙ sym (line-by _ (bytes "map") refl (told c.before.before.begins5.ensures c.before.if5.true))
 
 returns-6 : tie.Need-returns-6

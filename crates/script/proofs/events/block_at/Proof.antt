@@ -6,9 +6,9 @@ use Prim.Native.Nat.{◌+◌}
 use native.Mathlib.Omega.{arith}
 use lib.Dec.{lit≤}
 use Rattle.device.specs.declared.event.Block.TheVariants.{Risaf}
-use Rattle.script.specs.Command.{numberOr, registerLine, requestFields}
+use Rattle.script.specs.Command.{number_or, register_line, request_fields}
 use Rattle.script.specs.Fields.{field_at, fields_of}
-use Rattle.script.specs.Numbers.{decimalOf}
+use Rattle.script.specs.Numbers.{decimal_of}
 use Rattle.script.specs.Places.{Starts}
 use Rattle.script.specs.declared.command.Command.TheVariants.{Bad}
 use Rattle.script.proofs.Keywords.{is-rifsc, is-iac, is-risaf, no_block}
@@ -37,9 +37,9 @@ returns-3 c =
     )
 
 risaf : (c : tie.Else3)
-    → (registerLine (fields_of (start c).args.line.now)
-    ≡ (numberOr Bad (decimalOf (field_at (fields_of (start c).args.line.now) 2)) λ guard.
-    requestFields (Risaf (record { 0 = guard })) 3 (fields_of (start c).args.line.now)))
+    → (register_line (fields_of (start c).args.line.now)
+    ≡ (number_or Bad (decimal_of (field_at (fields_of (start c).args.line.now) 2)) λ guard.
+    request_fields (Risaf (record { 0 = guard })) 3 (fields_of (start c).args.line.now)))
     × Starts (start c).args.line.now (fields_of (start c).args.line.now) 2 ((start c).args.from + 6)
 risaf c = is-risaf (start c).requires (told c.before.begins3.ensures (not-false c.before.begins3.result c.if3.false))
 

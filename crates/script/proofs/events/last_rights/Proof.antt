@@ -6,9 +6,9 @@ use mathlib.Core.List.{List}
 use native.Mathlib.Omega.{arith}
 use lib.Dec.{eqb, lit<}
 use lib.ListN.{length}
-use Rattle.script.specs.Command.{rightsFields}
+use Rattle.script.specs.Command.{rights_fields}
 use Rattle.script.specs.Numbers.{either_of}
-use Rattle.script.specs.Places.{Starts, lastRights, rest_at}
+use Rattle.script.specs.Places.{Starts, last_rights, rest_at}
 use Rattle.script.specs.declared.events.Rights.TheVariants.{NoRights}
 use Rattle.script.proofs.Places.{starts-begin, its-count}
 use Rattle.script.proofs.Readings.{there, either-next, either_way, rights-length}
@@ -50,14 +50,14 @@ third c =
     (there s (either_of (code "p") (code "u")) c.before.before.either-at2.ensures c.privileged.given.1)
 
 returns-2 : tie.Need-returns-2
-unfolding lastRights rightsFields
+unfolding last_rights rights_fields
 returns-2 c =
     let a = c.before.before.before.before.before in
     rw (there (first a) (either_of (code "s") (code "n")) c.before.before.either-at.ensures c.enum_told.given.1)
     (either_way (eqb (length (fields a)) 2) NoRights)
 
 returns-3 : tie.Need-returns-3
-unfolding lastRights rightsFields
+unfolding last_rights rights_fields
 returns-3 c =
     let one = c.before.before.before.before in
     rw (
@@ -67,7 +67,7 @@ returns-3 c =
     (either_way (eqb (length (fields (secure one))) 2) NoRights)
 
 returns-4 : tie.Need-returns-4
-unfolding lastRights rightsFields
+unfolding last_rights rights_fields
 returns-4 c =
     let two = c.before in
     let one = privileged two in

@@ -9,9 +9,9 @@ use mathlib.Core.Path.{◌≡◌, ◌∙◌}
 use native.Mathlib.Omega.{arith}
 use lib.Dec.{eqb, lit<}
 use lib.ListN.{length}
-use Rattle.script.specs.Command.{memoryLine, rightsFields, targetFields, writeOf}
+use Rattle.script.specs.Command.{memory_line, rights_fields, target_fields, write_of}
 use Rattle.script.specs.Fields.{field_at, fields_of}
-use Rattle.script.specs.Numbers.{decimalOf, hexOf}
+use Rattle.script.specs.Numbers.{decimal_of, hex_of}
 use Rattle.script.specs.Places.{Starts}
 use Rattle.script.specs.declared.command.Command.TheVariants.{Bad}
 use Rattle.script.specs.declared.events.Rights.TheVariants.{NoRights}
@@ -30,7 +30,7 @@ fields c = fields_of c.args.line.now
 abbrev guard : tie.After-guard → tie.Start
 guard c = c.before.before.before.before
 
-its-guard : (c : tie.After-guard) → decimalOf (field_at (fields (guard c)) 1) ≡ Value c.guard.given.0.0
+its-guard : (c : tie.After-guard) → decimal_of (field_at (fields (guard c)) 1) ≡ Value c.guard.given.0.0
 its-guard c = decimal-read (guard c).requires c.before.before.decimal-at.ensures c.guard.given.1
 
 second : (c : tie.After-guard) → Starts (guard c).args.line.now (fields (guard c)) 2 (c.guard.given.0.1.0 + 1)
@@ -39,8 +39,8 @@ second c = decimal-next (guard c).requires c.before.before.decimal-at.ensures c.
 abbrev offset : tie.After-offset → tie.After-guard
 offset c = c.before.before.before.before
 
-its-offset : (c : tie.After-offset) → hexOf (field_at (fields (guard (offset c))) 2) ≡ Value c.offset.given.0.0
-its-offset c = there (second (offset c)) hexOf c.before.before.hex-at.ensures c.offset.given.1
+its-offset : (c : tie.After-offset) → hex_of (field_at (fields (guard (offset c))) 2) ≡ Value c.offset.given.0.0
+its-offset c = there (second (offset c)) hex_of c.before.before.hex-at.ensures c.offset.given.1
 
 third : (c : tie.After-offset)
     → Starts (guard (offset c)).args.line.now (fields (guard (offset c))) 3 ((offset c).guard.given.0.1.0 + 1 + 9)
@@ -49,7 +49,7 @@ third c = hex-next (second (offset c)) (its-offset c)
 abbrev width : tie.After-width → tie.After-offset
 width c = c.before.before.before.before
 
-its-width : (c : tie.After-width) → decimalOf (field_at (fields (guard (offset (width c)))) 3) ≡ Value c.width.given.0.0
+its-width : (c : tie.After-width) → decimal_of (field_at (fields (guard (offset (width c)))) 3) ≡ Value c.width.given.0.0
 its-width c = decimal-read (third (width c)) c.before.before.decimal-at2.ensures c.width.given.1
 
 fourth : (c : tie.After-width)
@@ -59,8 +59,8 @@ fourth c = decimal-next (third (width c)) c.before.before.decimal-at2.ensures c.
 abbrev write : tie.After-write → tie.After-width
 write c = c.before.before.before.before
 
-its-write : (c : tie.After-write) → writeOf (field_at (fields (guard (offset (width (write c))))) 4) ≡ Made c.write.given.0.0
-its-write c = there (fourth (write c)) writeOf c.before.before.either-at.ensures c.write.given.1
+its-write : (c : tie.After-write) → write_of (field_at (fields (guard (offset (width (write c))))) 4) ≡ Made c.write.given.0.0
+its-write c = there (fourth (write c)) write_of c.before.before.either-at.ensures c.write.given.1
 
 fifth : (c : tie.After-write)
     → Starts (guard (offset (width (write c)))).args.line.now (fields (guard (offset (width (write c))))) 5 ((write c).width.given.0.1.0 + 1 + 2)
@@ -73,7 +73,7 @@ cid c = c.before.before.before.before
 abbrev all : tie.After-cid → List (List ℕ)
 all c = fields (guard (offset (width (write (cid c)))))
 
-its-cid : (c : tie.After-cid) → decimalOf (field_at (all c) 5) ≡ Value c.cid.given.0.0
+its-cid : (c : tie.After-cid) → decimal_of (field_at (all c) 5) ≡ Value c.cid.given.0.0
 its-cid c = decimal-read (fifth (cid c)) c.before.before.decimal-at3.ensures c.cid.given.1
 
 sixth : (c : tie.After-cid) → Starts (guard (offset (width (write (cid c))))).args.line.now (all c) 6 (c.cid.given.0.1.0 + 1)
@@ -82,35 +82,35 @@ sixth c = decimal-next (fifth (cid c)) c.before.before.decimal-at3.ensures c.cid
 -- ---- the ends
 
 returns : tie.Need-returns
-unfolding memoryLine targetFields
+unfolding memory_line target_fields
 returns c =
     let a = c.before.before.before.before in
     rw (decimal-none a.requires c.before.before.decimal-at.ensures c.enum_told.given.1) (either_way (eqb (length (fields a)) 8) Bad)
 
 returns-2 : tie.Need-returns-2
-unfolding memoryLine targetFields
+unfolding memory_line target_fields
 returns-2 c =
     let g = c.before.before.before.before in
-    rw (its-guard g, there (second g) hexOf c.before.before.hex-at.ensures c.enum-told2.given.1)
+    rw (its-guard g, there (second g) hex_of c.before.before.hex-at.ensures c.enum-told2.given.1)
     (either_way (eqb (length (fields (guard g))) 8) Bad)
 
 returns-3 : tie.Need-returns-3
-unfolding memoryLine targetFields
+unfolding memory_line target_fields
 returns-3 c =
     let o = c.before.before.before.before in
     rw (its-guard (offset o), its-offset o, decimal-none (third o) c.before.before.decimal-at2.ensures c.enum-told3.given.1)
     (either_way (eqb (length (fields (guard (offset o)))) 8) Bad)
 
 returns-4 : tie.Need-returns-4
-unfolding memoryLine targetFields
+unfolding memory_line target_fields
 returns-4 c =
     let w = c.before.before.before.before in
     let o = width w in
-    rw (its-guard (offset o), its-offset o, its-width w, there (fourth w) writeOf c.before.before.either-at.ensures c.enum-told4.given.1)
+    rw (its-guard (offset o), its-offset o, its-width w, there (fourth w) write_of c.before.before.either-at.ensures c.enum-told4.given.1)
     (either_way (eqb (length (fields (guard (offset o)))) 8) Bad)
 
 returns-5 : tie.Need-returns-5
-unfolding memoryLine targetFields
+unfolding memory_line target_fields
 returns-5 c =
     let t = c.before.before.before.before in
     let w = write t in
@@ -125,7 +125,7 @@ returns-5 c =
     (either_way (eqb (length (fields (guard (offset o)))) 8) Bad)
 
 returns-6 : tie.Need-returns-6
-unfolding memoryLine targetFields
+unfolding memory_line target_fields
 returns-6 c =
     let n = c.before.before.before.before in
     let t = cid n in
@@ -133,20 +133,20 @@ returns-6 c =
     let o = width w in
     let fs = all n in
     ⊎_elim (λ (e : eqb (length fs) 8 ≡ false). rw e)
-    (λ (e : rightsFields fs 6 ≡ NoRights).
+    (λ (e : rights_fields fs 6 ≡ NoRights).
     rw (its-guard (offset o), its-offset o, its-width w, its-write t, its-cid n, e) (either_way (eqb (length fs) 8) Bad))
-    (no-rights (eqb (length fs) 8) (rightsFields fs 6)
+    (no-rights (eqb (length fs) 8) (rights_fields fs 6)
     (told (c.before.before.last-rights.ensures ∙ rights-there (sixth n)) c.enum-told6.given.1))
 
 returns-7 : tie.Need-returns-7
-unfolding memoryLine targetFields
+unfolding memory_line target_fields
 returns-7 c =
     let r = c.before in
     let n = r.before.before.before.before in
     let t = cid n in
     let w = write t in
     let o = width w in
-    let e = some-rights (eqb (length (all n)) 8) (rightsFields (all n) 6)
+    let e = some-rights (eqb (length (all n)) 8) (rights_fields (all n) 6)
     (told (r.before.before.last-rights.ensures ∙ rights-there (sixth n)) r.secure.given.1) in
     rw (e.0, its-guard (offset o), its-offset o, its-width w, its-write t, its-cid n, e.1)
 

@@ -8,9 +8,9 @@ use mathlib.Core.Path.{◌≡◌, ◌∙◌}
 use native.Mathlib.Omega.{arith}
 use lib.Dec.{eqb}
 use lib.ListN.{length}
-use Rattle.script.specs.Command.{peripheralLine, rightsFields}
+use Rattle.script.specs.Command.{peripheral_line, rights_fields}
 use Rattle.script.specs.Fields.{fields_of}
-use Rattle.script.specs.Numbers.{operationOf}
+use Rattle.script.specs.Numbers.{operation_of}
 use Rattle.script.specs.Places.{Starts}
 use Rattle.script.specs.declared.command.Command.TheVariants.{Bad}
 use Rattle.script.specs.declared.events.Rights.TheVariants.{NoRights}
@@ -35,54 +35,54 @@ third : (c : tie.After-operation)
     → Starts (number (operation c)).args.line.now (fields (number (operation c))) 3 ((operation c).p.given.0.1.0 + 1 + 2)
 third c =
     let s = second (operation c) in
-    operation-next s (there s operationOf c.before.before.operation-at.ensures c.operation.given.1)
+    operation-next s (there s operation_of c.before.before.operation-at.ensures c.operation.given.1)
 
 returns : tie.Need-returns
-unfolding peripheralLine
+unfolding peripheral_line
 returns c =
     let a = c.before.before.before.before in
     rw (decimal-none a.requires c.before.before.decimal-at.ensures c.enum_told.given.1) (either_way (eqb (length (fields a)) 5) Bad)
 
 returns-2 : tie.Need-returns-2
-unfolding peripheralLine
+unfolding peripheral_line
 returns-2 c =
     let p = c.before.before.before.before in
     rw (
       decimal-read (number p).requires p.before.before.decimal-at.ensures p.p.given.1,
-      there (second p) operationOf c.before.before.operation-at.ensures c.enum-told2.given.1,
+      there (second p) operation_of c.before.before.operation-at.ensures c.enum-told2.given.1,
     )
     (either_way (eqb (length (fields (number p))) 5) Bad)
 
 returns-3 : tie.Need-returns-3
-unfolding peripheralLine
+unfolding peripheral_line
 returns-3 c =
     let o = c.before.before.before.before in
     let p = operation o in
     let fs = fields (number p) in
     ⊎_elim (λ (e : eqb (length fs) 5 ≡ false). rw e)
-    (λ (e : rightsFields fs 3 ≡ NoRights).
+    (λ (e : rights_fields fs 3 ≡ NoRights).
     rw (
       decimal-read (number p).pre p.before.before.decimal-at.ensures p.p.given.1,
-      there (second p) operationOf o.before.before.operation-at.ensures o.operation.given.1,
+      there (second p) operation_of o.before.before.operation-at.ensures o.operation.given.1,
       e,
     )
     (either_way (eqb (length fs) 5) Bad))
-    (no-rights (eqb (length fs) 5) (rightsFields fs 3)
+    (no-rights (eqb (length fs) 5) (rights_fields fs 3)
     (told (c.before.before.last-rights.ensures ∙ rights-there (third o)) c.enum-told3.given.1))
 
 returns-4 : tie.Need-returns-4
-unfolding peripheralLine
+unfolding peripheral_line
 returns-4 c =
     let r = c.before in
     let o = r.before.before.before.before in
     let p = operation o in
     let fs = fields (number p) in
-    let e = some-rights (eqb (length fs) 5) (rightsFields fs 3)
+    let e = some-rights (eqb (length fs) 5) (rights_fields fs 3)
     (told (r.before.before.last-rights.ensures ∙ rights-there (third o)) r.secure.given.1) in
     rw (
       e.0,
       decimal-read (number p).pre p.before.before.decimal-at.ensures p.p.given.1,
-      there (second p) operationOf o.before.before.operation-at.ensures o.operation.given.1,
+      there (second p) operation_of o.before.before.operation-at.ensures o.operation.given.1,
       e.1,
     )
 

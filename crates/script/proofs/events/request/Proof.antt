@@ -9,8 +9,8 @@ use mathlib.Core.Path.{◌≡◌, ◌∙◌}
 use native.Mathlib.Omega.{arith}
 use lib.Dec.{eqb, lit<}
 use lib.ListN.{length}
-use Rattle.script.specs.Command.{requestFields, rightsFields, writeOf}
-use Rattle.script.specs.Numbers.{hexOf}
+use Rattle.script.specs.Command.{request_fields, rights_fields, write_of}
+use Rattle.script.specs.Numbers.{hex_of}
 use Rattle.script.specs.Places.{Starts, rest_at}
 use Rattle.script.specs.declared.command.Command.TheVariants.{Bad}
 use Rattle.script.specs.declared.events.Rights.TheVariants.{NoRights}
@@ -33,7 +33,7 @@ offset c = c.before.before.before.before
 second : (c : tie.After-offset) → Starts (offset c).args.line.now (fields (offset c)) 1 ((offset c).args.from + 9)
 second c =
     let s = first (offset c) in
-    hex-next s (there s hexOf c.before.before.hex-at.ensures c.offset.given.1)
+    hex-next s (there s hex_of c.before.before.hex-at.ensures c.offset.given.1)
 
 abbrev write : tie.After-write → tie.After-offset
 write c = c.before.before.before.before
@@ -42,7 +42,7 @@ third : (c : tie.After-write)
     → Starts (offset (write c)).args.line.now (fields (offset (write c))) 2 ((offset (write c)).args.from + 9 + 2)
 third c =
     let s = second (write c) in
-    either-next s (code "w") (code "r") (lit< tt) (lit< tt) (there s writeOf c.before.before.either-at.ensures c.write.given.1)
+    either-next s (code "w") (code "r") (lit< tt) (lit< tt) (there s write_of c.before.before.either-at.ensures c.write.given.1)
 
 abbrev value : tie.After-value → tie.After-write
 value c = c.before.before.before.before
@@ -52,70 +52,70 @@ fourth : (c : tie.After-value)
     ((offset (write (value c))).args.from + 9 + 2 + 9)
 fourth c =
     let s = third (value c) in
-    hex-next s (there s hexOf c.before.before.hex-at2.ensures c.value.given.1)
+    hex-next s (there s hex_of c.before.before.hex-at2.ensures c.value.given.1)
 
 returns : tie.Need-returns
-unfolding requestFields
+unfolding request_fields
 returns c =
     let a = c.before.before.before.before in
-    rw (there (first a) hexOf c.before.before.hex-at.ensures c.enum_told.given.1) (either_way (eqb (length (fields a)) 5) Bad)
+    rw (there (first a) hex_of c.before.before.hex-at.ensures c.enum_told.given.1) (either_way (eqb (length (fields a)) 5) Bad)
 
 returns-2 : tie.Need-returns-2
-unfolding requestFields
+unfolding request_fields
 returns-2 c =
     let o = c.before.before.before.before in
     rw (
-      there (first (offset o)) hexOf o.before.before.hex-at.ensures o.offset.given.1,
-      there (second o) writeOf c.before.before.either-at.ensures c.enum-told2.given.1,
+      there (first (offset o)) hex_of o.before.before.hex-at.ensures o.offset.given.1,
+      there (second o) write_of c.before.before.either-at.ensures c.enum-told2.given.1,
     )
     (either_way (eqb (length (fields (offset o))) 5) Bad)
 
 returns-3 : tie.Need-returns-3
-unfolding requestFields
+unfolding request_fields
 returns-3 c =
     let w = c.before.before.before.before in
     let o = write w in
     rw (
-      there (first (offset o)) hexOf o.before.before.hex-at.ensures o.offset.given.1,
-      there (second o) writeOf w.before.before.either-at.ensures w.write.given.1,
-      there (third w) hexOf c.before.before.hex-at2.ensures c.enum-told3.given.1,
+      there (first (offset o)) hex_of o.before.before.hex-at.ensures o.offset.given.1,
+      there (second o) write_of w.before.before.either-at.ensures w.write.given.1,
+      there (third w) hex_of c.before.before.hex-at2.ensures c.enum-told3.given.1,
     )
     (either_way (eqb (length (fields (offset o))) 5) Bad)
 
 returns-4 : tie.Need-returns-4
-unfolding requestFields
+unfolding request_fields
 returns-4 c =
     let v = c.before.before.before.before in
     let w = value v in
     let o = write w in
     let fs = fields (offset o) in
     ⊎_elim (λ (e : eqb (length fs) 5 ≡ false). rw e)
-    (λ (e : rightsFields fs 3 ≡ NoRights).
+    (λ (e : rights_fields fs 3 ≡ NoRights).
     rw (
-      there (first (offset o)) hexOf o.before.before.hex-at.ensures o.offset.given.1,
-      there (second o) writeOf w.before.before.either-at.ensures w.write.given.1,
-      there (third w) hexOf v.before.before.hex-at2.ensures v.value.given.1,
+      there (first (offset o)) hex_of o.before.before.hex-at.ensures o.offset.given.1,
+      there (second o) write_of w.before.before.either-at.ensures w.write.given.1,
+      there (third w) hex_of v.before.before.hex-at2.ensures v.value.given.1,
       e,
     )
     (either_way (eqb (length fs) 5) Bad))
-    (no-rights (eqb (length fs) 5) (rightsFields fs 3)
+    (no-rights (eqb (length fs) 5) (rights_fields fs 3)
     (told (c.before.before.last-rights.ensures ∙ rights-there (fourth v)) c.enum-told4.given.1))
 
 returns-5 : tie.Need-returns-5
-unfolding requestFields
+unfolding request_fields
 returns-5 c =
     let r = c.before in
     let v = r.before.before.before.before in
     let w = value v in
     let o = write w in
     let fs = fields (offset o) in
-    let e = some-rights (eqb (length fs) 5) (rightsFields fs 3)
+    let e = some-rights (eqb (length fs) 5) (rights_fields fs 3)
     (told (r.before.before.last-rights.ensures ∙ rights-there (fourth v)) r.secure.given.1) in
     rw (
       e.0,
-      there (first (offset o)) hexOf o.before.before.hex-at.ensures o.offset.given.1,
-      there (second o) writeOf w.before.before.either-at.ensures w.write.given.1,
-      there (third w) hexOf v.before.before.hex-at2.ensures v.value.given.1,
+      there (first (offset o)) hex_of o.before.before.hex-at.ensures o.offset.given.1,
+      there (second o) write_of w.before.before.either-at.ensures w.write.given.1,
+      there (third w) hex_of v.before.before.hex-at2.ensures v.value.given.1,
       e.1,
     )
 

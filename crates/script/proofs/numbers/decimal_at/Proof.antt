@@ -8,15 +8,15 @@ use Prim.Native.Nat.{ℕ, ◌+◌, ◌*◌, ◌≤◌, ◌-◌}
 use native.Mathlib.Omega.{arith}
 use lib.Dec.{eqb}
 use lib.ListN.{length, get_or}
-use Rattle.script.specs.Numbers.{isDecimal, numberMost}
-use Rattle.script.specs.Places.{decimalAt}
-use Rattle.script.proofs.DecimalAt.{readsOn, decimal-bounds, decimal-past, decimal-none, decimal-begin, decimal-tab, decimal-end, decimal-stop, decimal_step, decimal-over}
+use Rattle.script.specs.Numbers.{is_decimal, number_most}
+use Rattle.script.specs.Places.{decimal_at}
+use Rattle.script.proofs.DecimalAt.{reads_on, decimal-bounds, decimal-past, decimal-none, decimal-begin, decimal-tab, decimal-end, decimal-stop, decimal_step, decimal-over}
 use Rattle.script.proofs.Told.{told}
 use Rattle.script.proofs.numbers.decimal_at.Statement.{statement}
 use Rattle.script.proofs.numbers.decimal_at.Tie as tie
 
 abbrev invariant-loop : tie.invariant-loop
-invariant-loop line from first n₀ i₀ n i = (i ≤ length line) × (n ≤ numberMost) × (readsOn line n i ≡ decimalAt line from)
+invariant-loop line from first n₀ i₀ n i = (i ≤ length line) × (n ≤ number_most) × (reads_on line n i ≡ decimal_at line from)
 
 abbrev decreases-loop : tie.decreases-loop
 decreases-loop line from first n₀ i₀ n i = length line - i
@@ -33,7 +33,7 @@ returns-2 c =
 abbrev start : tie.Else2 invariant-loop decreases-loop → tie.Start invariant-loop decreases-loop
 start c = c.before.before.before.before.before
 
-first : (c : tie.Else2 invariant-loop decreases-loop) → isDecimal (get_or (start c).args.line.now (start c).args.from 0) ≡ true
+first : (c : tie.Else2 invariant-loop decreases-loop) → is_decimal (get_or (start c).args.line.now (start c).args.from 0) ≡ true
 first c = told c.before.is-decimal.ensures (not-false c.before.is-decimal.result c.if2.false)
 
 first-bounds : (c : tie.Else2 invariant-loop decreases-loop)
@@ -72,15 +72,15 @@ byte c = get_or (line c) c.before.before.before.before.before.loop.i 0
 more : (c : tie.Else4 invariant-loop decreases-loop) → (eqb c.before.before.before.before.before.loop.n 0 ≡ false) × (c.before.is-decimal2.result ≡ true)
 more c = or-not _ _ c.if4.false
 
-next : (c : tie.Else4 invariant-loop decreases-loop) → isDecimal (byte c) ≡ true
+next : (c : tie.Else4 invariant-loop decreases-loop) → is_decimal (byte c) ≡ true
 next c = told c.before.is-decimal2.ensures (more c).1
 
 bounds : (c : tie.Else4 invariant-loop decreases-loop) → (48 ≤ byte c) × (byte c ≤ 57)
 bounds c = decimal-bounds (byte c) (next c)
 
 step : (c : tie.Else4 invariant-loop decreases-loop)
-    → readsOn (line c) (10 * c.before.before.before.before.before.loop.n + (byte c - 48)) (c.before.before.before.before.before.loop.i + 1)
-    ≡ decimalAt (line c) c.before.before.before.before.before.before.before.before.before.before.before.args.from
+    → reads_on (line c) (10 * c.before.before.before.before.before.loop.n + (byte c - 48)) (c.before.before.before.before.before.loop.i + 1)
+    ≡ decimal_at (line c) c.before.before.before.before.before.before.before.before.before.before.before.args.from
 step c =
     let l = c.before.before.before.before.before.loop in
     decimal_step (line c) l.n l.i c.before.before.before.before.loop-test.true c.before.before.if3.false

@@ -7,7 +7,7 @@ use Prim.Native.Nat.{◌+◌, ◌≤◌}
 use native.Mathlib.Omega.{arith}
 use lib.ListN.{length, get_or}
 use Rattle.script.specs.Numbers.{either_of}
-use Rattle.script.specs.Places.{fieldFrom}
+use Rattle.script.specs.Places.{field_from}
 use Rattle.script.proofs.Fixed.{either-fixed, not_there, read-there}
 use Rattle.script.proofs.Told.{told}
 use Rattle.script.proofs.Places.{ends-within}
@@ -31,7 +31,7 @@ within c =
 -- the field is the byte there
 byte : (c : tie.Else1)
     → either_of (start c).args.this (start c).args.that (get_or (start c).args.line.now (start c).args.from 0 ∷ [])
-    ≡ either_of (start c).args.this (start c).args.that (fieldFrom (start c).args.line.now (start c).args.from)
+    ≡ either_of (start c).args.this (start c).args.that (field_from (start c).args.line.now (start c).args.from)
 byte c =
     let a = (start c).args in
     ap (either_of a.this a.that) (sym (one_byte a.line.now a.from (omega (arith, within c))))

@@ -6,9 +6,9 @@ use Prim.Native.Nat.{ℕ, ◌+◌, ◌*◌, ◌/◌, ◌^◌, ◌≤◌}
 use native.Mathlib.Omega.{arith}
 use lib.Bits.{bit_and, and_le_r}
 use lib.ListN.{take, drop}
-use Rattle.script.specs.Numbers.{hexOf}
-use Rattle.script.proofs.Gathered.{lowerBytes, lowerPairs}
-use Rattle.script.proofs.HexWord.{each, digitsIn, digits-most, shown-most, hex-not-low, hex-not-good, hex-good, hex-value, bytes_at, taken, bytes-known, eight-packed}
+use Rattle.script.specs.Numbers.{hex_of}
+use Rattle.script.proofs.Gathered.{lower_bytes, lower_pairs}
+use Rattle.script.proofs.HexWord.{each, digits_in, digits-most, shown-most, hex-not-low, hex-not-good, hex-good, hex-value, bytes_at, taken, bytes-known, eight-packed}
 use Rattle.script.proofs.Packed.{packed, Bytes}
 use Rattle.script.proofs.numbers.hex.Statement.{statement}
 use Rattle.script.proofs.numbers.hex.Tie as tie
@@ -28,8 +28,8 @@ bytes c = bytes-known 8 (line c) (from c) (λ i. (c.before.before.shared-slice-k
 is : (c : tie.After-four2) → text c ≡ packed (λ b. b) 0 (bytes_at (line c) (from c) 8)
 is c = eight-packed (line c) (from c) _ _ c.before.four.ensures c.four2.ensures
 
-there : (c : tie.After-four2) → hexOf (bytes_at (line c) (from c) 8) ≡ hexOf (take 8 (drop (from c) (line c)))
-there c = ap hexOf (sym (taken 8 (line c) (from c) c.before.before.before.requires))
+there : (c : tie.After-four2) → hex_of (bytes_at (line c) (from c) 8) ≡ hex_of (take 8 (drop (from c) (line c)))
+there c = ap hex_of (sym (taken 8 (line c) (from c) c.before.before.before.requires))
 
 returns : tie.Need-returns
 returns c = hex-not-low _ _ _ _ _ _ _ _ (bytes c.before) (text c.before) (is c.before) c.if1.true ∙ there c.before
@@ -47,10 +47,10 @@ returns-3 c =
 
 -- the digits in pairs
 abbrev paired : tie.After-four2 → ℕ
-paired c = bit_and (digitsIn (text c) + digitsIn (text c) / 2 ^ 4) lowerBytes
+paired c = bit_and (digits_in (text c) + digits_in (text c) / 2 ^ 4) lower_bytes
 
-paired-most : (c : tie.After-four2) → paired c ≤ lowerBytes
-paired-most c = and_le_r (digitsIn (text c) + digitsIn (text c) / 2 ^ 4) lowerBytes
+paired-most : (c : tie.After-four2) → paired c ≤ lower_bytes
+paired-most c = and_le_r (digits_in (text c) + digits_in (text c) / 2 ^ 4) lower_bytes
 
 pub hex-spec : {M : Type 1} → statement M
 hex-spec =
@@ -79,6 +79,6 @@ hex-spec =
     returns-2
     (λ c. omega (arith, digits-most (text c.before.before)))
     (λ c. omega (arith, paired-most c.before.before))
-    (λ c. omega (arith, and_le_r (paired c.before.before + paired c.before.before / 2 ^ 8) lowerPairs))
+    (λ c. omega (arith, and_le_r (paired c.before.before + paired c.before.before / 2 ^ 8) lower_pairs))
     (λ c. search rules)
     returns-3)

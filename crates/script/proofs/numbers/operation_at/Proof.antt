@@ -7,8 +7,8 @@ use Prim.Native.Nat.{◌+◌, ◌≤◌}
 use native.Mathlib.Omega.{arith}
 use lib.ListN.{length, get_or}
 use Rattle.script.specs.Fields.{same}
-use Rattle.script.specs.Numbers.{operationOf}
-use Rattle.script.specs.Places.{fieldFrom}
+use Rattle.script.specs.Numbers.{operation_of}
+use Rattle.script.specs.Places.{field_from}
 use Rattle.script.proofs.Fixed.{operation-fixed, not_there, read-there}
 use Rattle.script.proofs.Told.{told}
 use Rattle.script.proofs.Places.{ends-within}
@@ -30,22 +30,22 @@ within c =
 
 -- the field is the byte there
 byte : (c : tie.Else1)
-    → operationOf (get_or (start c).args.line.now (start c).args.from 0 ∷ []) ≡ operationOf (fieldFrom (start c).args.line.now (start c).args.from)
+    → operation_of (get_or (start c).args.line.now (start c).args.from 0 ∷ []) ≡ operation_of (field_from (start c).args.line.now (start c).args.from)
 byte c =
     let a = (start c).args in
-    ap operationOf (sym (one_byte a.line.now a.from (omega (arith, within c))))
+    ap operation_of (sym (one_byte a.line.now a.from (omega (arith, within c))))
     ∙ read-there operation-fixed _ _ (told c.before.ends.ensures (not-false c.before.ends.result c.if1.false))
 
 returns-2 : tie.Need-returns-2
-unfolding operationOf same
+unfolding operation_of same
 returns-2 c = rw c.match.keys1 at (byte c.before.before)
 
 returns-3 : tie.Need-returns-3
-unfolding operationOf same
+unfolding operation_of same
 returns-3 c = rw c.match.keys2 at (byte c.before.before)
 
 returns-4 : tie.Need-returns-4
-unfolding operationOf same
+unfolding operation_of same
 returns-4 c = rw c.match.keys3 at (byte c.before.before)
 
 returns-5 : tie.Need-returns-5

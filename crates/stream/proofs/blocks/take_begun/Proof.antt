@@ -1,7 +1,7 @@
 -- `stream::blocks::take_begun` meets its contract: the begun line, as far as it is kept, and then the lines behind it.
 use Rattle.std.proofs.Common.{sym, ◌∙◌, arith, length-take-le, rules}
 use borrow.Author.Tests.{not-false, not-true}
-use Rattle.stream.specs.Kept.{keptOf}
+use Rattle.stream.specs.Kept.{kept_of}
 use Rattle.stream.proofs.Begun.{begun-bad, begun-fits, begun-full, begun-last, begun-on, more}
 use Rattle.stream.proofs.Turns.{end-within}
 use Rattle.stream.proofs.blocks.take_begun.Statement.{statement}
@@ -12,7 +12,7 @@ returns c =
     let found = c.before.before.before.before.before.before in
     let start = found.before.before.before.before.before in
     let a = start.args in
-    let k = keptOf a.held a.line.now a.state.now in
+    let k = kept_of a.held a.line.now a.state.now in
     let e = c.before.before.before.keep.ensures in
     begun-last k a.block.now a.out.now a.at found.line-end.result start.requires.0 start.requires.1 found.line-end.ensures c.before.before.before.before.before.if1.true e.0 e.1 c.stopped.ensures
 
@@ -22,7 +22,7 @@ returns-2 c =
     let found = room.before.before.before in
     let start = found.before.before.before.before.before in
     let a = start.args in
-    let k = keptOf a.held a.line.now a.state.now in
+    let k = kept_of a.held a.line.now a.state.now in
     begun-full k a.block.now a.out.now a.at found.line-end.result start.requires.0 start.requires.1 found.line-end.ensures room.before.before.if1.false
     (sym room.has_room.ensures ∙ not-true room.has_room.result c.before.if2.true) c.stopped2.ensures
 
@@ -40,7 +40,7 @@ slice-reshare-prefix-end-line c =
     let found = room.before.before.before in
     let start = found.before.before.before.before.before in
     let a = start.args in
-    let k = keptOf a.held a.line.now a.state.now in
+    let k = kept_of a.held a.line.now a.state.now in
     begun-fits k a.block.now a.out.now a.at found.line-end.result start.requires.0 start.requires.1 found.line-end.ensures room.before.before.if1.false kept.keep2.ensures.0 kept.keep2.ensures.1
 
 slice-aggregate-end-line : tie.Need-slice-aggregate-end-line
@@ -50,7 +50,7 @@ slice-aggregate-end-line c =
     let found = room.before.before.before in
     let start = found.before.before.before.before.before in
     let a = start.args in
-    let k = keptOf a.held a.line.now a.state.now in
+    let k = kept_of a.held a.line.now a.state.now in
     sym (length-take-le kept.keep2.result kept.keep2.new.0
     (begun-fits k a.block.now a.out.now a.at found.line-end.result start.requires.0 start.requires.1 found.line-end.ensures room.before.before.if1.false kept.keep2.ensures.0 kept.keep2.ensures.1))
 
@@ -61,7 +61,7 @@ add-behind-bad c =
     let found = room.before.before.before in
     let start = found.before.before.before.before.before in
     let a = start.args in
-    let k = keptOf a.held a.line.now a.state.now in
+    let k = kept_of a.held a.line.now a.state.now in
     let within = more k a.block.now a.out.now a.at found.line-end.result start.requires.0 start.requires.1 found.line-end.ensures room.before.before.if1.false in
     search (rules, within)
 
@@ -73,7 +73,7 @@ returns-3 c =
     let found = room.before.before.before in
     let start = found.before.before.before.before.before in
     let a = start.args in
-    let k = keptOf a.held a.line.now a.state.now in
+    let k = kept_of a.held a.line.now a.state.now in
     let e = ended.end_line.ensures in
     begun-bad k a.block.now a.out.now a.at found.line-end.result start.requires.0 start.requires.1 found.line-end.ensures room.before.before.if1.false kept.keep2.ensures.0 kept.keep2.ensures.1 start.requires.2
     e.0 e.1.0 e.1.1.0 e.1.1.1 (sym room.has_room.ensures ∙ not-false room.has_room.result kept.before.before.before.if2.false) c.before.if3.true c.behind-bad.ensures
@@ -85,7 +85,7 @@ add-take-lines c =
     let found = room.before.before.before in
     let start = found.before.before.before.before.before in
     let a = start.args in
-    let k = keptOf a.held a.line.now a.state.now in
+    let k = kept_of a.held a.line.now a.state.now in
     let within = more k a.block.now a.out.now a.at found.line-end.result start.requires.0 start.requires.1 found.line-end.ensures room.before.before.if1.false in
     search (rules, within)
 
@@ -96,7 +96,7 @@ take-lines-requires c κs =
     let found = room.before.before.before in
     let start = found.before.before.before.before.before in
     let a = start.args in
-    let k = keptOf a.held a.line.now a.state.now in
+    let k = kept_of a.held a.line.now a.state.now in
     (omega (arith, more k a.block.now a.out.now a.at found.line-end.result start.requires.0 start.requires.1 found.line-end.ensures room.before.before.if1.false), kept.keep2.auto.0 ∙ start.requires.1)
 
 returns-4 : tie.Need-returns-4
@@ -108,7 +108,7 @@ returns-4 c =
     let found = room.before.before.before in
     let start = found.before.before.before.before.before in
     let a = start.args in
-    let k = keptOf a.held a.line.now a.state.now in
+    let k = kept_of a.held a.line.now a.state.now in
     let e = ended.end_line.ensures in
     begun-on k a.block.now a.out.now a.at found.line-end.result start.requires.0 start.requires.1 found.line-end.ensures room.before.before.if1.false kept.keep2.ensures.0 kept.keep2.ensures.1 start.requires.2
     e.0 e.1.0 e.1.1.0 e.1.1.1 (sym room.has_room.ensures ∙ not-false room.has_room.result kept.before.before.before.if2.false) took.before.before.before.before.before.if3.false took.before.before.before.before.wrapping-add-u64.ensures took.take-lines.ensures

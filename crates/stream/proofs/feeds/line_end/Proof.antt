@@ -1,12 +1,12 @@
 -- `stream::feeds::line_end` meets its contract: the bytes passed so far are no feeds.
 use Rattle.std.proofs.Common.{◌≡◌, ◌-◌, ◌≤◌, length, sym, ◌∙◌, arith, rules}
-use Rattle.stream.specs.Feeds.{lineEnd}
+use Rattle.stream.specs.Feeds.{line_end}
 use Rattle.stream.proofs.Ends.{ends-past}
 use Rattle.stream.proofs.feeds.line_end.Statement.{statement}
 use Rattle.stream.proofs.feeds.line_end.Tie as tie
 
 abbrev invariant-loop : tie.invariant-loop
-invariant-loop block from i₀ i = (i ≤ length block) × (lineEnd block i ≡ lineEnd block from)
+invariant-loop block from i₀ i = (i ≤ length block) × (line_end block i ≡ line_end block from)
 
 abbrev decreases-loop : tie.decreases-loop
 decreases-loop block from i₀ i = length block - i

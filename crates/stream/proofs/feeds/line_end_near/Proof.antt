@@ -1,12 +1,12 @@
 -- `stream::feeds::line_end_near` meets its contract: the bytes passed so far are no feeds.
 use Rattle.std.proofs.Common.{◌≡◌, ◌-◌, ◌≤◌, length, ◌∙◌, arith, rules, ne_eqb}
-use Rattle.stream.specs.Feeds.{lineEnd}
+use Rattle.stream.specs.Feeds.{line_end}
 use Rattle.stream.proofs.Ends.{ends-at-feed, ends-later, ends-with-block}
 use Rattle.stream.proofs.feeds.line_end_near.Statement.{statement}
 use Rattle.stream.proofs.feeds.line_end_near.Tie as tie
 
 abbrev invariant-loop : tie.invariant-loop
-invariant-loop block from i₀ i = (i ≤ length block) × (lineEnd block i ≡ lineEnd block from)
+invariant-loop block from i₀ i = (i ≤ length block) × (line_end block i ≡ line_end block from)
 
 abbrev decreases-loop : tie.decreases-loop
 decreases-loop block from i₀ i = length block - i

@@ -3,7 +3,7 @@ use borrow.Author.Rules.{rules}
 use Prim.Native.Nat.{◌<◌}
 use native.Mathlib.Omega.{arith}
 use lib.ListN.{length}
-use Rattle.stream.specs.Kept.{keptOf}
+use Rattle.stream.specs.Kept.{kept_of}
 use Rattle.stream.proofs.Given.{left-few, left-size, none-taken, took-most}
 use Rattle.stream.proofs.Turns.{part}
 use Rattle.suthrain.proofs.blocks.take_part.Statement.{statement}
@@ -13,7 +13,7 @@ returns : tie.Need-returns
 returns c =
     let start = c.before.before.before.before.before.before.before.before.before.before.before.before.before.before.before.before.before.before.before.before.before in
     let a = start.args in
-    let k = keptOf a.place.held a.line.now a.state.now in
+    let k = kept_of a.place.held a.line.now a.state.now in
     let b = part a.place.from (length a.block.now) a.block.now in
     let e = c.before.before.before.before.before.before.before.before.before.before.before.take.ensures.0 in
     let some : 0 < length b = omega (arith, left-size a.block.now a.place.from, start.requires.3) in
@@ -24,7 +24,7 @@ add-t16 : tie.Need-overflow-add-t16
 add-t16 c =
     let start = c.before.before.before.before.before.before.before.before.before.before.before.before.before.before.before.before.before.before.before.before in
     let a = start.args in
-    let k = keptOf a.place.held a.line.now a.state.now in
+    let k = kept_of a.place.held a.line.now a.state.now in
     let b = part a.place.from (length a.block.now) a.block.now in
     let most = took-most k b a.out.now a.place.at c.before.before.before.before.before.before.before.before.before.before.take.ensures.0 in
     search (rules, most, left-size a.block.now a.place.from, start.requires.3)
@@ -33,7 +33,7 @@ returns-2 : tie.Need-returns-2
 returns-2 c =
     let start = c.before.before.before.before.before.before.before.before.before.before.before.before.before.before.before.before.before.before.before.before in
     let a = start.args in
-    let k = keptOf a.place.held a.line.now a.state.now in
+    let k = kept_of a.place.held a.line.now a.state.now in
     let b = part a.place.from (length a.block.now) a.block.now in
     let took = c.before.before.before.before.before.before.before.before.before.before.take in
     let most = took-most k b a.out.now a.place.at took.ensures.0 in

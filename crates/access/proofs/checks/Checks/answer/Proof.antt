@@ -1,18 +1,18 @@
 -- `access::checks::Checks::answer` meets its contract: the first test that fails, with those before it passed.
 use borrow.Author.Rules.{rules}
 use borrow.Author.Tests.{not-true, not-false}
-use Rattle.access.specs.Checks.{answeredWith}
+use Rattle.access.specs.Checks.{answered_with}
 use Rattle.access.proofs.checks.Checks.answer.Statement.{statement}
 use Rattle.access.proofs.checks.Checks.answer.Tie as tie
 
 returns : tie.Need-returns
-unfolding answeredWith
+unfolding answered_with
 returns c =
     let s = c.before.before.args.self in
     rw (not-true s.present c.if1.true)
 
 returns-2 : tie.Need-returns-2
-unfolding answeredWith
+unfolding answered_with
 returns-2 c =
     let s = c.before.before.before.before.args.self in
     rw (
@@ -21,7 +21,7 @@ returns-2 c =
     )
 
 returns-3 : tie.Need-returns-3
-unfolding answeredWith
+unfolding answered_with
 returns-3 c =
     let s = c.before.before.before.before.before.before.args.self in
     rw (
@@ -31,7 +31,7 @@ returns-3 c =
     )
 
 returns-4 : tie.Need-returns-4
-unfolding answeredWith
+unfolding answered_with
 returns-4 c =
     let s = c.before.before.before.before.before.before.before.before.args.self in
     rw (
@@ -42,7 +42,7 @@ returns-4 c =
     )
 
 returns-5 : tie.Need-returns-5
-unfolding answeredWith
+unfolding answered_with
 returns-5 c =
     let s = c.before.before.before.before.before.before.before.before.before.args.self in
     rw (

@@ -1,17 +1,17 @@
 -- `access::checks::Checks::reached` meets its contract: the first test that fails, with those before it passed.
 use borrow.Author.Tests.{not-true, not-false}
-use Rattle.access.specs.Checks.{reachedWith}
+use Rattle.access.specs.Checks.{reached_with}
 use Rattle.access.proofs.checks.Checks.reached.Statement.{statement}
 use Rattle.access.proofs.checks.Checks.reached.Tie as tie
 
 returns : tie.Need-returns
-unfolding reachedWith
+unfolding reached_with
 returns c =
     let s = c.before.before.args.self in
     rw (not-true s.known c.if1.true)
 
 returns-2 : tie.Need-returns-2
-unfolding reachedWith
+unfolding reached_with
 returns-2 c =
     let s = c.before.before.before.before.args.self in
     rw (
@@ -20,7 +20,7 @@ returns-2 c =
     )
 
 returns-3 : tie.Need-returns-3
-unfolding reachedWith
+unfolding reached_with
 returns-3 c =
     let s = c.before.before.before.before.before.before.args.self in
     rw (
@@ -30,7 +30,7 @@ returns-3 c =
     )
 
 returns-4 : tie.Need-returns-4
-unfolding reachedWith
+unfolding reached_with
 returns-4 c =
     let s = c.before.before.before.before.before.before.before.before.args.self in
     rw (
@@ -41,7 +41,7 @@ returns-4 c =
     )
 
 returns-5 : tie.Need-returns-5
-unfolding reachedWith
+unfolding reached_with
 returns-5 c =
     let s = c.before.before.before.before.before.before.before.before.args.self in
     rw (

@@ -1,10 +1,10 @@
 use borrow.Author.Rules.{rules}
-use Rattle.iac.specs.Held.{withCount}
+use Rattle.iac.specs.Held.{with_count}
 use Rattle.iac.proofs.held.Held.with_count.Statement.{statement}
 use Rattle.iac.proofs.held.Held.with_count.Tie as tie
 
 returns : tie.Need-returns
-unfolding withCount
+unfolding with_count
 returns c = simp (c.merge.ensures, c.before.with-bit.ensures)
 
 pub with-count-spec : {M : Type 1} → statement M

@@ -6,7 +6,7 @@ use Prim.Native.Nat.{ℕ, zero, suc, ◌≤◌}
 use native.Mathlib.Omega.{arith}
 use lib.Dec.{eqb}
 use lib.ListN.{length, get_or}
-use Rattle.rifsc.specs.Masters.{guarding, guardingOf}
+use Rattle.rifsc.specs.Masters.{guarding, guarding_of}
 use Rattle.rifsc.proofs.masters.MasterNumber.guarding.Statement.{statement}
 use Rattle.rifsc.proofs.masters.MasterNumber.guarding.Tie as tie
 
@@ -25,55 +25,55 @@ other n h = go (eqb n 0) refl
     go false e = past (0 ∷ guarding) n (h (eqb-false n 0 e))
 
 returns : tie.Need-returns
-unfolding guardingOf
+unfolding guarding_of
 returns c = simp c.match.keys1
 
 returns-2 : tie.Need-returns-2
-unfolding guardingOf
+unfolding guarding_of
 returns-2 c = simp c.match.keys2
 
 returns-3 : tie.Need-returns-3
-unfolding guardingOf
+unfolding guarding_of
 returns-3 c = simp c.match.keys3
 
 returns-4 : tie.Need-returns-4
-unfolding guardingOf
+unfolding guarding_of
 returns-4 c = simp c.match.keys4
 
 returns-5 : tie.Need-returns-5
-unfolding guardingOf
+unfolding guarding_of
 returns-5 c = simp c.match.keys5
 
 returns-6 : tie.Need-returns-6
-unfolding guardingOf
+unfolding guarding_of
 returns-6 c = simp c.match.keys6
 
 returns-7 : tie.Need-returns-7
-unfolding guardingOf
+unfolding guarding_of
 returns-7 c = simp c.match.keys7
 
 returns-8 : tie.Need-returns-8
-unfolding guardingOf
+unfolding guarding_of
 returns-8 c = simp c.match.keys8
 
 returns-9 : tie.Need-returns-9
-unfolding guardingOf
+unfolding guarding_of
 returns-9 c = simp c.match.keys9
 
 returns-10 : tie.Need-returns-10
-unfolding guardingOf
+unfolding guarding_of
 returns-10 c = simp c.match.keys10
 
 returns-11 : tie.Need-returns-11
-unfolding guardingOf
+unfolding guarding_of
 returns-11 c = simp c.match.keys11
 
 returns-12 : tie.Need-returns-12
-unfolding guardingOf
+unfolding guarding_of
 returns-12 c = simp c.match.keys12
 
 returns-13 : tie.Need-returns-13
-unfolding guardingOf
+unfolding guarding_of
 returns-13 c =
     let n = c.before.args.self.0 in
     let r = c.match.rest in

@@ -3,8 +3,8 @@ use mathlib.Core.Bool.{not, ◌&&◌, ◌||◌}
 use mathlib.Core.Path.{◌∙◌}
 use Prim.Native.Nat.{◌%◌}
 use borrow.Author.Tests.{eq-eqb, ne_eqb, not-true, not-false}
-use Rattle.access.specs.Checks.{answeredWith, reachedWith}
-use Rattle.rifsc.specs.Port.{accessed, answer_of, checksOf}
+use Rattle.access.specs.Checks.{answered_with, reached_with}
+use Rattle.rifsc.specs.Port.{accessed, answer_of, checks_of}
 use Rattle.rifsc.proofs.PortLaws.{read_left, write-left}
 use borrow.Author.Rules.{rules}
 use Rattle.rifsc.proofs.port.Seen.access.Statement.{statement}
@@ -16,33 +16,33 @@ returns c =
     c.left.ensures ∙ rw c.before.read.ensures (read_left a.reg a.row a.self a.q (not-true a.q.write c.before.before.if1.true))
 
 returns-2 : tie.Need-returns-2
-unfolding accessed answer_of checksOf answeredWith reachedWith
+unfolding accessed answer_of checks_of answered_with reached_with
 returns-2 c =
     let q = c.before.before.before.before.before.args.q in
     simp (c.left2.ensures, not-false q.write c.before.before.before.if1.false, ne_eqb (q.offset % 4) 0 c.before.if2.true)
 
 returns-3 : tie.Need-returns-3
-unfolding accessed answer_of checksOf answeredWith reachedWith
+unfolding accessed answer_of checks_of answered_with reached_with
 returns-3 c =
     let q = c.before.before.before.before.before.before.before.args.q in
     simp (c.left3.ensures, not-false q.write c.before.before.before.before.before.if1.false, eq-eqb (q.offset % 4) 0 c.before.before.before.if2.false, not-true c.before.before.before.before.before.before.before.args.row.known c.before.if3.true)
 
 returns-4 : tie.Need-returns-4
-unfolding accessed answer_of checksOf answeredWith reachedWith
+unfolding accessed answer_of checks_of answered_with reached_with
 returns-4 c =
     let q = c.before.before.before.before.before.before.before.before.before.before.before.args.q in
     let r = c.before.before.before.before.before.before.before.before.before.before.before.args.row in
     simp (c.left4.ensures, not-false q.write c.before.before.before.before.before.before.before.before.before.if1.false, eq-eqb (q.offset % 4) 0 c.before.before.before.before.before.before.before.if2.false, not-false r.known c.before.before.before.before.before.if3.false, not-true (q.privileged && (q.secure || not r.secure)) c.before.if4.true)
 
 returns-5 : tie.Need-returns-5
-unfolding accessed answer_of checksOf answeredWith reachedWith
+unfolding accessed answer_of checks_of answered_with reached_with
 returns-5 c =
     let q = c.before.before.before.before.before.before.before.before.before.before.before.before.before.args.q in
     let r = c.before.before.before.before.before.before.before.before.before.before.before.before.before.args.row in
     simp (c.left5.ensures, not-false q.write c.before.before.before.before.before.before.before.before.before.before.before.if1.false, eq-eqb (q.offset % 4) 0 c.before.before.before.before.before.before.before.before.before.if2.false, not-false r.known c.before.before.before.before.before.before.before.if3.false, not-false (q.privileged && (q.secure || not r.secure)) c.before.before.before.if4.false, not-true r.writable c.before.if5.true)
 
 returns-6 : tie.Need-returns-6
-unfolding accessed answer_of checksOf answeredWith reachedWith
+unfolding accessed answer_of checks_of answered_with reached_with
 returns-6 c =
     let q = c.before.before.before.before.before.before.before.before.before.before.before.before.before.before.args.q in
     let r = c.before.before.before.before.before.before.before.before.before.before.before.before.before.before.args.row in

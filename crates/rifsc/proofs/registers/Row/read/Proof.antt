@@ -1,24 +1,24 @@
 -- `rifsc::registers::Row::read` meets its contract: the first test that fails, with those before it passed.
 use Prim.Native.Nat.{◌%◌}
 use borrow.Author.Tests.{eq-eqb, ne_eqb, not-true, not-false}
-use Rattle.rifsc.specs.Port.{readAnswer, read_of}
+use Rattle.rifsc.specs.Port.{read_answer, read_of}
 use borrow.Author.Rules.{rules}
 use Rattle.rifsc.proofs.registers.Row.read.Statement.{statement}
 use Rattle.rifsc.proofs.registers.Row.read.Tie as tie
 
 returns : tie.Need-returns
-unfolding readAnswer
+unfolding read_answer
 returns c =
     simp (ne_eqb (c.before.args.offset % 4) 0 c.if1.true)
 
 returns-2 : tie.Need-returns-2
-unfolding readAnswer
+unfolding read_answer
 returns-2 c =
     let a = c.before.before.before.args in
     simp (eq-eqb (a.offset % 4) 0 c.before.before.if1.false, not-true a.self.known c.if2.true)
 
 returns-3 : tie.Need-returns-3
-unfolding readAnswer read_of
+unfolding read_answer read_of
 returns-3 c =
     let a = c.before.before.before.before.before.args in
     simp (eq-eqb (a.offset % 4) 0 c.before.before.before.before.if1.false, not-false a.self.known c.before.before.if2.false, c.united.ensures, c.before.masked.ensures)

@@ -4,8 +4,8 @@ use borrow.Author.Rules.{rules}
 use borrow.Author.Tests.{ne_eqb}
 use mir.Val.{bool_byte}
 use Rattle.regions.proofs.Digits.{byte-most, byte_one}
-use Rattle.risaf.specs.Memory.{recordedFault}
-use Rattle.risaf.specs.Rows.{ofHead}
+use Rattle.risaf.specs.Memory.{recorded_fault}
+use Rattle.risaf.specs.Rows.{of_head}
 use Rattle.risaf.proofs.memory.Faults.recorded.Statement.{statement}
 use Rattle.risaf.proofs.memory.Faults.recorded.Tie as tie
 
@@ -20,7 +20,7 @@ write : (c : tie.Start) → bool_byte c.args.k.write ≤ 1
 write c = byte-most c.args.k.write
 
 returns : tie.Need-returns
-unfolding recordedFault
+unfolding recorded_fault
 returns c = simp (c.if1.true, c.before.before.with-bit.ensures)
 
 mul-kind : tie.Need-overflow-mul-kind
@@ -42,7 +42,7 @@ add-kind-3 : tie.Need-overflow-add-kind-3
 add-kind-3 c = omega (arith, privileged c.before.before.before.before.before.before.before, secure c.before.before.before.before.before.before.before, write c.before.before.before.before.before.before.before)
 
 returns-2 : tie.Need-returns-2
-unfolding recordedFault ofHead
+unfolding recorded_fault of_head
 returns-2 c =
     let k = c.before.before.before.before.before.before.before.before.args.k in
     simp (

@@ -1,22 +1,22 @@
 use borrow.Author.Rules.{rules}
-use Rattle.risaf.specs.Rows.{ofBase}
+use Rattle.risaf.specs.Rows.{of_base}
 use Rattle.risaf.proofs.registers.BaseField.row.Statement.{statement}
 use Rattle.risaf.proofs.registers.BaseField.row.Tie as tie
 
 returns : tie.Need-returns
-unfolding ofBase
+unfolding of_base
 returns c = simp (c.base-row.ensures, c.before.enum_told.given.1)
 
 returns-2 : tie.Need-returns-2
-unfolding ofBase
+unfolding of_base
 returns-2 c = simp (c.base-row2.ensures, c.before.enum-told2.given.1)
 
 returns-3 : tie.Need-returns-3
-unfolding ofBase
+unfolding of_base
 returns-3 c = simp (c.base-row3.ensures, c.before.enum-told3.given.1)
 
 returns-4 : tie.Need-returns-4
-unfolding ofBase
+unfolding of_base
 returns-4 c = simp (c.base-row4.ensures, c.before.enum-told4.given.1)
 
 pub row-spec : {M : Type 1} → statement M

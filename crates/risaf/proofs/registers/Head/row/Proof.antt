@@ -1,26 +1,26 @@
 use borrow.Author.Rules.{rules}
-use Rattle.risaf.specs.Rows.{ofHead}
+use Rattle.risaf.specs.Rows.{of_head}
 use Rattle.risaf.proofs.registers.Head.row.Statement.{statement}
 use Rattle.risaf.proofs.registers.Head.row.Tie as tie
 
 returns : tie.Need-returns
-unfolding ofHead
+unfolding of_head
 returns c = simp (c.head-row.ensures, c.before.enum_told.given.1)
 
 returns-2 : tie.Need-returns-2
-unfolding ofHead
+unfolding of_head
 returns-2 c = simp (c.head-row2.ensures, c.before.enum-told2.given.1)
 
 returns-3 : tie.Need-returns-3
-unfolding ofHead
+unfolding of_head
 returns-3 c = simp (c.head-row3.ensures, c.before.enum-told3.given.1)
 
 returns-4 : tie.Need-returns-4
-unfolding ofHead
+unfolding of_head
 returns-4 c = simp (c.head-row4.ensures, c.before.enum-told4.given.1)
 
 returns-5 : tie.Need-returns-5
-unfolding ofHead
+unfolding of_head
 returns-5 c = simp (c.head-row5.ensures, c.before.enum-told5.given.1)
 
 pub row-spec : {M : Type 1} → statement M

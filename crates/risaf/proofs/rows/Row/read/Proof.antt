@@ -1,32 +1,32 @@
 -- `risaf::rows::Row::read` meets its contract: the first test that fails, with those before it passed.
 use mathlib.Core.Bool.{not, ◌&&◌, ◌||◌}
 use borrow.Author.Tests.{not-true, not-false}
-use Rattle.risaf.specs.Port.{read_of, readReached}
+use Rattle.risaf.specs.Port.{read_of, read_reached}
 use borrow.Author.Rules.{rules}
 use Rattle.risaf.proofs.rows.Row.read.Statement.{statement}
 use Rattle.risaf.proofs.rows.Row.read.Tie as tie
 
 returns : tie.Need-returns
-unfolding readReached
+unfolding read_reached
 returns c =
     simp (not-true c.before.before.before.args.self.known c.if1.true)
 
 returns-2 : tie.Need-returns-2
-unfolding readReached
+unfolding read_reached
 returns-2 c =
     let s = c.before.before.before.before.before.before.args.self in
     let q = c.before.before.before.before.before.before.args.q in
     simp (not-false s.known c.before.before.before.if1.false, not-true (not s.guarded || q.secure && q.privileged) c.if2.true)
 
 returns-3 : tie.Need-returns-3
-unfolding readReached
+unfolding read_reached
 returns-3 c =
     let s = c.before.before.before.before.before.before.before.before.args.self in
     let q = c.before.before.before.before.before.before.before.before.args.q in
     simp (not-false s.known c.before.before.before.before.before.if1.false, not-false (not s.guarded || q.secure && q.privileged) c.before.before.if2.false, not-true s.readable c.if3.true)
 
 returns-4 : tie.Need-returns-4
-unfolding readReached read_of
+unfolding read_reached read_of
 returns-4 c =
     let s = c.before.before.before.before.before.before.before.before.before.before.args.self in
     let q = c.before.before.before.before.before.before.before.before.before.before.args.q in
