@@ -2,7 +2,7 @@ ghost use Rattle.std.specs.Prelude.{◌≡◌};
 ghost use Rattle.access.specs.Answer.{encoded_of, number_of, value_of, why_number};
 
 // Why an event is rejected: it leaves the state as it was.
-#[derive(Drop)]
+#[derive(Clone, Copy)]
 pub enum Why {
     Locked,
     NoRegister,
@@ -14,7 +14,7 @@ pub enum Why {
 }
 
 // The answer to an event, in the three ways in which it can end: done, refused for want of rights, rejected.
-#[derive(Drop)]
+#[derive(Clone, Copy)]
 pub enum Answer {
     Done(u32),
     Refused(u32),

@@ -4,7 +4,7 @@ ghost use Rattle.access.specs.Bus.{heard, heard_cid};
 use crate::{Cid, Kind};
 
 // The bus that a guard stands on. An access on AHB carries no CID.
-#[derive(Drop)]
+#[derive(Clone, Copy)]
 pub enum Bus {
     Axi,
     Ahb,

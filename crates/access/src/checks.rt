@@ -4,7 +4,7 @@ ghost use Rattle.access.specs.Checks.{answered, reached};
 use crate::{Answer, Why};
 
 // What is tested of an event once the lent memory has its length. A test that a kind of event does not have is passed.
-#[derive(Drop)]
+#[derive(Clone, Copy)]
 pub struct Checks {
     // The block, guard, master, peripheral, CID and width are ones there are.
     pub present: bool,

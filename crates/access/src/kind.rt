@@ -3,7 +3,7 @@ ghost use Rattle.access.specs.Kind.{equals};
 
 // A compartment number, CID; never a guard's or a peripheral's number.
 #[repr(C)]
-#[derive(Drop)]
+#[derive(Clone, Copy)]
 pub struct Cid(pub u32);
 
 // The largest compartment number, and the debugger's: it passes every compartment test.
@@ -11,7 +11,7 @@ pub const DEBUGGER: Cid = Cid(7);
 
 // A kind of asking. With a CID from 0 to 7 there are 64.
 #[repr(C)]
-#[derive(Drop)]
+#[derive(Clone, Copy)]
 pub struct Kind {
     pub cid: Cid,
     pub write: bool,

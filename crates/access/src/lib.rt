@@ -1,4 +1,6 @@
 // What every block shares: how an access is asked, how it is answered, and in which order it is checked.
+#![tactic(auto)]
+
 pub mod answer;
 pub mod bus;
 pub mod checks;

@@ -1,5 +1,5 @@
 // What a register access asks of a block's port.
-#[derive(Drop)]
+#[derive(Clone, Copy)]
 pub struct Request {
     pub offset: u32,
     pub write: bool,

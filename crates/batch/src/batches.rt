@@ -9,7 +9,7 @@ use access::{Answer, Why};
 use device::{MemoryAccess, STATE_WORDS};
 
 // How a batch ends: an Answer that holds no enum, since the function that makes it is walked by hand.
-#[derive(Drop)]
+#[derive(Clone, Copy)]
 pub enum Batched {
     Done(u32),
     WrongLength,

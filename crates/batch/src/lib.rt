@@ -1,4 +1,6 @@
 // Memory accesses one after another.
+#![tactic(auto)]
+
 pub mod batches;
 
 pub use batches::{Batched, batch};

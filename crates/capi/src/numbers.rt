@@ -5,13 +5,13 @@ ghost use Rattle.capi.specs.Numbers.{block_numbered, operation_numbered};
 use device::{Block, Operation};
 use risaf::GuardNumber;
 
-#[derive(Drop)]
+#[derive(Clone, Copy)]
 pub(crate) enum NamedBlock {
     Is(Block),
     NoBlock,
 }
 
-#[derive(Drop)]
+#[derive(Clone, Copy)]
 pub(crate) enum NamedOperation {
     Does(Operation),
     NoOperation,

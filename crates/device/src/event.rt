@@ -3,28 +3,28 @@ use rifsc::{MasterNumber, PeripheralNumber};
 use risaf::GuardNumber;
 
 // The block whose registers are accessed.
-#[derive(Drop)]
+#[derive(Clone, Copy)]
 pub enum Block {
     Rifsc,
     Iac,
     Risaf(GuardNumber),
 }
 
-#[derive(Drop)]
+#[derive(Clone, Copy)]
 pub struct RegisterAccess {
     pub block: Block,
     pub request: Request,
 }
 
 // What is done at a peripheral.
-#[derive(Drop)]
+#[derive(Clone, Copy)]
 pub enum Operation {
     Read,
     Write,
     Fetch,
 }
 
-#[derive(Drop)]
+#[derive(Clone, Copy)]
 pub struct PeripheralAccess {
     pub peripheral: PeripheralNumber,
     pub operation: Operation,
@@ -33,7 +33,7 @@ pub struct PeripheralAccess {
 }
 
 #[repr(C)]
-#[derive(Drop)]
+#[derive(Clone, Copy)]
 pub struct MemoryAccess {
     pub guard: GuardNumber,
     pub offset: u32,
@@ -42,7 +42,7 @@ pub struct MemoryAccess {
 }
 
 // A memory access whose CID, security and privilege are those that the master carries.
-#[derive(Drop)]
+#[derive(Clone, Copy)]
 pub struct MasterAccess {
     pub master: MasterNumber,
     pub guard: GuardNumber,
@@ -52,7 +52,7 @@ pub struct MasterAccess {
 }
 
 // One event at a time is applied to the state.
-#[derive(Drop)]
+#[derive(Clone, Copy)]
 pub enum Event {
     Reset,
     Register(RegisterAccess),

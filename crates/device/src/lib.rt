@@ -1,4 +1,6 @@
 // The whole device: its state in the caller's memory, and what an event does to it.
+#![tactic(auto)]
+
 pub mod applied;
 mod blocks;
 mod controller;

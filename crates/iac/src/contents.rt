@@ -4,7 +4,7 @@ ghost use Rattle.iac.specs.Contents.{reset};
 use words::BIT_WORDS;
 
 // The enables and the flags as stored, and the words that keep the line and the count of flags set and enabled: whole words.
-#[derive(Drop)]
+#[derive(Clone, Copy)]
 pub struct Iac {
     pub ier: [u32; BIT_WORDS],
     pub isr: [u32; BIT_WORDS],

@@ -3,7 +3,7 @@ ghost use Rattle.std.specs.Prelude.{◌≡◌};
 ghost use Rattle.iac.specs.Held.{fresh_of, with_count};
 
 // The words that keep them, whole.
-#[derive(Drop)]
+#[derive(Clone, Copy)]
 pub struct Held {
     // Bit 0.
     pub line: u32,

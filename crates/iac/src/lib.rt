@@ -1,4 +1,6 @@
 // The illegal access controller IAC: flags, their enables, and the interrupt line as it is kept.
+#![tactic(auto)]
+
 pub mod contents;
 pub mod flags;
 pub mod held;

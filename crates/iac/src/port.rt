@@ -6,13 +6,13 @@ use crate::registers::{Row, iisr};
 use access::{Answer, Request, Why};
 
 // What an access to a register needs of the IAC, by value: the register's own word, for ICR the word of ISR.
-#[derive(Drop)]
+#[derive(Clone, Copy)]
 pub struct Seen {
     pub word: u32,
 }
 
 // What an access leaves, and the answer.
-#[derive(Drop)]
+#[derive(Clone, Copy)]
 pub struct Accessed {
     pub next: Seen,
     pub answer: Answer,

@@ -2,7 +2,7 @@ ghost use Rattle.std.specs.Prelude.{◌≡◌};
 ghost use Rattle.iac.specs.Registers.{iisr, register_at, row, row_of};
 
 // A register of the illegal access controller, with its index.
-#[derive(Drop)]
+#[derive(Clone, Copy)]
 pub enum Register {
     Ier(usize),
     Isr(usize),
@@ -12,7 +12,7 @@ pub enum Register {
 }
 
 // A register's row of the table: all that is fixed of it.
-#[derive(Drop)]
+#[derive(Clone, Copy)]
 pub struct Row {
     pub known: bool,
     // Not write-only.

@@ -19,7 +19,7 @@ pub const MOST_ROWS: usize = 67;
 pub const LEAST_ROOM: usize = ROW_NUMBERS * MOST_ROWS;
 
 // What filling lent memory with a map gives: the answer, and how many numbers are used.
-#[derive(Drop)]
+#[derive(Clone, Copy)]
 pub struct Filled {
     pub answer: Answer,
     pub used: usize,

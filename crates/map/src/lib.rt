@@ -1,4 +1,6 @@
 // The map of a guard in the caller's memory: who may do what at which offset.
+#![tactic(auto)]
+
 pub mod fill;
 pub mod part;
 

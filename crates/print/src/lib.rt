@@ -1,4 +1,6 @@
 // Answers and maps as text.
+#![tactic(auto)]
+
 mod hex;
 mod print;
 

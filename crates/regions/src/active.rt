@@ -7,7 +7,7 @@ use crate::masks::none_enabled;
 use crate::places::{ENABLE, END, MOST_REGIONS, REGION_WORDS, START};
 
 // The base regions that a sweep has to look at from an offset on, up to `to`: no other covers there.
-#[derive(Drop)]
+#[derive(Clone, Copy)]
 pub struct Active {
     // From this one up to the other, which is not one of them.
     pub low: usize,

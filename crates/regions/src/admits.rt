@@ -8,7 +8,7 @@ use access::Bus;
 
 // Who passes the tests of the rule that governs an offset, in their order: security, privilege, compartment and direction. Bit c of a
 // mask is CID c; what is above bit 7 means nothing.
-#[derive(Drop)]
+#[derive(Clone, Copy)]
 pub(crate) struct Admits {
     pub(crate) rule: u32,
     pub(crate) secure: bool,

@@ -1,5 +1,7 @@
 // What the regions of a guard grant: the verdict on an access, the rights of all kinds of asking in one word, up to where they stay, and
 // which base regions a sweep over them has to look at.
+#![tactic(auto)]
+
 mod active;
 mod admits;
 mod ahead;

@@ -11,7 +11,7 @@ use crate::places::{
 use access::{Cid, DEBUGGER};
 
 // What the base regions that cover say, of those that were looked at.
-#[derive(Drop)]
+#[derive(Clone, Copy)]
 pub(crate) struct Masks {
     // The bits that some CFGR has, and every one; those that every CIDCFGR has.
     pub(crate) some: u32,
@@ -26,7 +26,7 @@ pub(crate) struct Masks {
 }
 
 // The SRCIDs that serve a compartment, where they lie in CFGR: those that have `srcid` in the bits of `mask`.
-#[derive(Drop)]
+#[derive(Clone, Copy)]
 pub(crate) struct Served {
     mask: u32,
     srcid: u32,

@@ -45,7 +45,7 @@ fn word(a: Admits) -> u64
 }
 
 // A stretch of offsets that have one rights word: the word, and the offset past the last of them.
-#[derive(Drop)]
+#[derive(Clone, Copy)]
 pub struct Stretch {
     pub rights: u64,
     pub to: u64,

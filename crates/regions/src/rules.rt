@@ -13,7 +13,7 @@ use access::{Bus, Cid, DEBUGGER, Kind};
 
 // The rule that governs an offset (0 default, 1 base region, 2 subregion), and the first of its tests that fails: NO_REASON where the
 // access is granted.
-#[derive(Drop)]
+#[derive(Clone, Copy)]
 pub struct Verdict {
     pub rule: u32,
     pub reason: u32,

@@ -8,7 +8,7 @@ use crate::masks::{Masks, none_gathered, openings, with_base, with_sub};
 use crate::places::{BASE_WORDS, CIDCFGR, ENABLE, END, REGION_WORDS, START, SUBREGION_WORDS};
 
 // What the base regions that were looked at say at an offset, and up to where they say that.
-#[derive(Drop)]
+#[derive(Clone, Copy)]
 pub(crate) struct Scan {
     pub(crate) masks: Masks,
     pub(crate) to: u64,

@@ -1,5 +1,7 @@
 // The program `releases OLD NEW`: two scripts, each run from reset, and for each guard what differs between its two maps, as README.md
 // says.
+#![tactic(auto)]
+
 mod report;
 mod run;
 

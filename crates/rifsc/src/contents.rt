@@ -5,7 +5,7 @@ use crate::masters::MASTERS;
 use words::BIT_WORDS;
 
 // The controller's registers as stored, whole words.
-#[derive(Drop)]
+#[derive(Clone, Copy)]
 pub struct Rifsc {
     pub cr: u32,
     pub seccfgr: [u32; BIT_WORDS],

@@ -1,4 +1,6 @@
 // The controller RIFSC: which peripherals are secure and privileged, and what each master carries.
+#![tactic(auto)]
+
 pub mod contents;
 pub mod masters;
 pub mod peripherals;

@@ -5,7 +5,7 @@ use crate::peripherals::PeripheralNumber;
 use access::{Cid, Kind};
 
 // A master's number; never a compartment's number, which is what a master carries.
-#[derive(Drop)]
+#[derive(Clone, Copy)]
 pub struct MasterNumber(pub u32);
 
 // How many masters there are, with an ATTR each: MCID, MSEC and MPRIV.
@@ -50,7 +50,7 @@ impl MasterNumber {
 }
 
 // What the controller holds of one master: its ATTR, and the SEC bit of its guarding peripheral, true where it has none.
-#[derive(Drop)]
+#[derive(Clone, Copy)]
 pub struct Attributes {
     pub attr: u32,
     pub sec: bool,

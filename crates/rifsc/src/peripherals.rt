@@ -4,7 +4,7 @@ ghost use Rattle.rifsc.specs.Peripherals.{exists, grants};
 use crate::registers::PERIPHERALS;
 
 // A peripheral's number; never a compartment's or a guard's number.
-#[derive(Drop)]
+#[derive(Clone, Copy)]
 pub struct PeripheralNumber(pub u32);
 
 // Peripherals are numbered below this; the PPSR bits above are those of the firewall's own blocks.
@@ -22,7 +22,7 @@ impl PeripheralNumber {
 }
 
 // What the controller holds of one peripheral: its SEC and its PRIV.
-#[derive(Drop)]
+#[derive(Clone, Copy)]
 pub struct Filter {
     pub sec: bool,
     pub privileged: bool,

@@ -8,7 +8,7 @@ use crate::registers::{ATTR_FLAGS, ATTR_NAMED, DAPCID, GLOCK, Row};
 use access::{Answer, DEBUGGER, Request, Why};
 
 // What an access to a register needs of the controller, by value.
-#[derive(Drop)]
+#[derive(Clone, Copy)]
 pub struct Seen {
     // The register is locked whole.
     pub locked: bool,
@@ -20,7 +20,7 @@ pub struct Seen {
 }
 
 // What an access leaves, and the answer.
-#[derive(Drop)]
+#[derive(Clone, Copy)]
 pub struct Accessed {
     pub next: Seen,
     pub answer: Answer,

@@ -2,7 +2,7 @@ ghost use Rattle.std.specs.Prelude.{◌≡◌};
 ghost use Rattle.rifsc.specs.Registers.{ppsr, register_at, row, row_of};
 
 // A register of the controller, with its index where it is one of several.
-#[derive(Drop)]
+#[derive(Clone, Copy)]
 pub enum Register {
     Cr,
     Seccfgr(usize),
@@ -15,7 +15,7 @@ pub enum Register {
 }
 
 // What stops every write to a register: GLOCK of CR, GLOCK of RIMC_CR, or nothing.
-#[derive(Drop)]
+#[derive(Clone, Copy)]
 pub enum Lock {
     Glock,
     RimcLock,
@@ -23,7 +23,7 @@ pub enum Lock {
 }
 
 // A register's row of the table: all that is fixed of it.
-#[derive(Drop)]
+#[derive(Clone, Copy)]
 pub struct Row {
     pub known: bool,
     // Not read-only.

@@ -21,7 +21,7 @@ pub const GUARD_WORDS: usize = HEAD_WORDS + REGIONS_WORDS;
 
 // A guard's registers as stored, whole words. The regions lie one after the other, as regions::places has it. There is room for the
 // most regions, whatever the guard's own count.
-#[derive(Drop)]
+#[derive(Clone, Copy)]
 pub struct Guard {
     pub cr: u32,
     pub iasr: u32,

@@ -5,12 +5,12 @@ use access::{Bus, Flag};
 
 // A guard's number; never a compartment's or a peripheral's number.
 #[repr(C)]
-#[derive(Drop)]
+#[derive(Clone, Copy)]
 pub struct GuardNumber(pub u32);
 
 // What a guard is: whether there is one, its place among the guards in rising number, its count of base regions, the size of its
 // window and of its granule in bytes, the bus that it stands on, and its flag.
-#[derive(Drop)]
+#[derive(Clone, Copy)]
 pub struct Shape {
     pub there: bool,
     pub place: usize,

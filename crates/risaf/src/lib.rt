@@ -1,4 +1,6 @@
 // One memory guard. Document 01 calls a RISAF a guard.
+#![tactic(auto)]
+
 pub mod contents;
 pub mod guards;
 pub mod memory;

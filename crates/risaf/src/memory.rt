@@ -8,7 +8,7 @@ use access::{Answer, DEBUGGER, Kind, Why};
 use regions::places::COMPARTMENTS;
 
 // The fault registers, as stored.
-#[derive(Drop)]
+#[derive(Clone, Copy)]
 pub struct Faults {
     pub iasr: u32,
     pub iaesr: u32,

@@ -22,7 +22,7 @@ use access::{Answer, Bus, Checks, Cid, Request, Why};
 use regions::places::{COMPARTMENTS, SEC};
 
 // What an access to a register needs of the guard.
-#[derive(Drop)]
+#[derive(Clone, Copy)]
 pub struct Port {
     pub glock: bool,
     pub iasr: u32,
@@ -36,7 +36,7 @@ pub struct Port {
 }
 
 // What an access leaves: the next of all that, and the answer.
-#[derive(Drop)]
+#[derive(Clone, Copy)]
 pub struct Accessed {
     pub next: Port,
     pub answer: Answer,

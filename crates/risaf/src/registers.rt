@@ -4,7 +4,7 @@ ghost use Rattle.risaf.specs.Registers.{region_at, region_register, register_at,
 use regions::places::MOST_REGIONS;
 
 // A register that is none of a region's.
-#[derive(Drop)]
+#[derive(Clone, Copy)]
 pub enum Head {
     Cr,
     Iasr,
@@ -14,7 +14,7 @@ pub enum Head {
 }
 
 // A register of a base region, and of a subregion.
-#[derive(Drop)]
+#[derive(Clone, Copy)]
 pub enum BaseField {
     Cfgr,
     Start,
@@ -22,7 +22,7 @@ pub enum BaseField {
     Cidcfgr,
 }
 
-#[derive(Drop)]
+#[derive(Clone, Copy)]
 pub enum SubField {
     SubCfgr,
     SubStart,
@@ -31,7 +31,7 @@ pub enum SubField {
 }
 
 // A register of a guard. The first index is the base region's, from 0; the second is 0 for subregion A and 1 for B.
-#[derive(Drop)]
+#[derive(Clone, Copy)]
 pub enum Register {
     OfHead(Head),
     OfBase(usize, BaseField),

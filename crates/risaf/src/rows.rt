@@ -8,7 +8,7 @@ use crate::registers::{BaseField, Head, Register, SubField, register_at};
 use regions::places::{BASE_WORDS, CIDCFGR, END, NEST, REGION_WORDS, START, SUBREGION_WORDS};
 
 // What stops every write to a register: the guard's GLOCK, the subregion's RLOCK, or nothing.
-#[derive(Drop)]
+#[derive(Clone, Copy)]
 pub enum Lock {
     Glock,
     Rlock,
@@ -17,7 +17,7 @@ pub enum Lock {
 
 // How a write changes the word: not at all, the named bits taken, set by 1, cleared by 1, the start or the end of a granule, or as a
 // subregion's CFGR.
-#[derive(Drop)]
+#[derive(Clone, Copy)]
 pub enum Form {
     Kept,
     Taken,
@@ -29,7 +29,7 @@ pub enum Form {
 }
 
 // A register's row of the table: all that is fixed of it.
-#[derive(Drop)]
+#[derive(Clone, Copy)]
 pub struct Row {
     pub known: bool,
     // Not write-only, not read-only.

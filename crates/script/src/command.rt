@@ -16,7 +16,7 @@ const KEYWORD_STEP: usize = 4;
 const RESET_LENGTH: usize = 5;
 
 // What a line asks for.
-#[derive(Drop)]
+#[derive(Clone, Copy)]
 pub enum Command {
     Event(Event),
     Map(GuardNumber),

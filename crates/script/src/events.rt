@@ -22,14 +22,14 @@ const IAC_STEP: usize = 4;
 const RIF_STEP: usize = 6;
 
 // The reading of s/n p/u: secure, privileged.
-#[derive(Drop)]
+#[derive(Clone, Copy)]
 enum Rights {
     NoRights,
     Are(bool, bool),
 }
 
 // The reading of a block: which it is, and where the next field starts.
-#[derive(Drop)]
+#[derive(Clone, Copy)]
 enum BlockField {
     NoBlock,
     Is(Block, usize),

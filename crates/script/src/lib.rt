@@ -1,4 +1,6 @@
 // A line of text as a command, and, from the crate `print`, answers, maps and what differs between maps as text.
+#![tactic(auto)]
+
 mod command;
 mod events;
 mod fields;

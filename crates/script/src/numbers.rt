@@ -30,28 +30,28 @@ const LOWER_PAIRS: u64 = 0x0000_ffff_0000_ffff;
 // that stands behind several such tests a call.
 
 // A field's reading as a number.
-#[derive(Drop)]
+#[derive(Clone, Copy)]
 pub(crate) enum Number {
     NoNumber,
     Value(u32),
 }
 
 // The reading of a decimal number: what it is, and where its field ends.
-#[derive(Drop)]
+#[derive(Clone, Copy)]
 pub(crate) enum Decimal {
     NoDecimal,
     Till(u32, usize),
 }
 
 // A field's reading as one of two letters.
-#[derive(Drop)]
+#[derive(Clone, Copy)]
 pub(crate) enum Choice {
     Neither,
     Made(bool),
 }
 
 // A field's reading as r, w or x.
-#[derive(Drop)]
+#[derive(Clone, Copy)]
 pub(crate) enum Action {
     NoAction,
     Of(Operation),

@@ -1,4 +1,6 @@
 // Maps of rights in lent memory. A row, or span, is three numbers: start, end, rights.
+#![tactic(auto)]
+
 ghost use Rattle.std.specs.Prelude.{◌≡◌};
 ghost use Rattle.spans.specs.Lookup.{lookup_in, row_place};
 ghost use Rattle.spans.specs.Passed.{Ended, Passed};

@@ -13,7 +13,7 @@ use std::num::wrapping_add_u64;
 
 // What a call gives back: how many bytes of the block it took, the place behind what it put out, what is kept now, and whether it stopped
 // behind a bad line, with that line's number.
-#[derive(Drop)]
+#[derive(Clone, Copy)]
 pub struct Taken {
     pub took: usize,
     pub filled: usize,
@@ -23,7 +23,7 @@ pub struct Taken {
 }
 
 // A line obeyed: the place behind what it prints, which stays where there is no room, and whether the line is bad.
-#[derive(Drop)]
+#[derive(Clone, Copy)]
 struct Ended {
     place: usize,
     bad: bool,

@@ -11,7 +11,7 @@ use print::print_bad;
 pub const LINE_ROOM: usize = 65;
 
 // What is kept between calls beside the state: how many bytes of the unfinished line, the first of LINE_ROOM lent ones, and its number.
-#[derive(Drop)]
+#[derive(Clone, Copy)]
 pub struct Held {
     pub bytes: usize,
     pub number: u64,

@@ -1,4 +1,6 @@
 // The program: a script on standard input, answers and maps on standard output, as README.md says.
+#![tactic(auto)]
+
 mod blocks;
 mod output;
 

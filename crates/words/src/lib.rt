@@ -1,4 +1,6 @@
 // The bits of a u32. No function asks anything of its caller.
+#![tactic(auto)]
+
 ghost use Rattle.std.specs.Prelude.{◌≡◌};
 ghost use Rattle.words.specs.Bit.{bit, field, less, masked, merged, united, with_bit};
 
