@@ -1,0 +1,16 @@
+use borrow.Author.Rules.{rules}
+use mathlib.Core.Path.{ap}
+use lib.ListN.{set}
+use Rattle.batch.proofs.batches.one.Goals as goal
+
+pub returns : goal.returns
+returns c =
+    let u = c.memory_encoded-answer in
+    let a = c.args in
+    (u.ensures.next, ap (set a.answers.now a.i) u.ensures.answer)
+
+pub one_spec : {M : Type 1} → statement M
+one_spec =
+    tie.close
+    (tie.spec (λ c κs. search rules) (λ c. search rules) (λ c. search rules) (λ c. search rules) (λ c. search rules)
+    returns)

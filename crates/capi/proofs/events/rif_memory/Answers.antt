@@ -1,0 +1,7 @@
+use borrow.Author.Rules.{rules}
+use Rattle.capi.specs.Events.{memory_event}
+use Rattle.capi.proofs.events.rif_memory.Goals as goal
+
+pub returns : goal.returns
+unfolding memory_event
+returns c = c.memory_encoded.ensures

@@ -1,0 +1,9 @@
+use mathlib.Core.Path.{◌∙◌, ap}
+use borrow.Author.Rules.{rules}
+use Rattle.access.specs.Answer.{encoded_of}
+use Rattle.capi.proofs.maps.rif_map.Goals as goal
+
+pub returns : goal.returns
+returns c =
+    let f = c.fill-filled.ensures in
+    (c.encoded.ensures ∙ ap encoded_of f.answer_value, (f.used_value.1, f.used_value.0))

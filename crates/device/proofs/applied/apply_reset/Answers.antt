@@ -1,0 +1,15 @@
+use borrow.Author.Rules.{rules}
+use mathlib.Core.Path.{refl}
+use Rattle.device.specs.Step.{step}
+use Rattle.device.specs.declared.event.Event.TheVariants.{Reset}
+use Rattle.device.proofs.Applies.{other_length, own-length}
+use Rattle.device.proofs.applied.apply_reset.Goals as goal
+
+pub returns-then-state-ne-STATE_WORDS : goal.returns-then-state-ne-STATE_WORDS
+returns-then-state-ne-STATE_WORDS c = other_length Reset c.args.state.now c.if-state-ne-STATE_WORDS.true
+
+pub returns : goal.returns
+unfolding step
+returns c =
+    let u = c.reset in
+    own-length Reset c.args.state.now c.if-state-ne-STATE_WORDS.false u.auto.0 refl u.ensures

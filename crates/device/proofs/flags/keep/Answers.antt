@@ -1,0 +1,26 @@
+use borrow.Author.Rules.{rules}
+use borrow.Author.Tests.{eq-eqb, ne_eqb}
+use Rattle.iac.specs.OneWord.{kept}
+use Rattle.iac.proofs.HeldLaws.{fresh-most}
+use Rattle.device.proofs.flags.keep.Goals as goal
+
+pub recount-requires : goal.recount-requires
+recount-requires c κs =
+    let s = c.before.before.before.before.before.before.before in
+    let a = s.args in
+    (s.requires, rw c.before.before.fresh.ensures (fresh-most a.named a.old a.other), rw c.before.fresh2.ensures (fresh-most a.named a.new a.other))
+
+pub returns-then-masked : goal.returns-then-masked
+unfolding kept
+returns-then-masked c =
+    simp (c.recount.ensures, c.fresh-after.ensures, c.fresh-before.ensures, ← c.masked-2.ensures, ← c.masked.ensures, ne_eqb _ _ c.if-masked.true)
+
+pub returns-else-masked : goal.returns-else-masked
+unfolding kept
+returns-else-masked c = simp (← c.masked-2.ensures, ← c.masked.ensures, eq-eqb _ _ c.if-masked.false)
+
+pub keep_spec : {M : Type 1} → statement M
+keep_spec =
+    tie.close
+    (tie.spec (λ c κs. search rules) (λ c κs. search rules) (λ c κs. search rules) (λ c κs. search rules) recount-requires
+    (λ c. search rules) returns-then-masked returns-else-masked)

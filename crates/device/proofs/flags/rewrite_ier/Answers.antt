@@ -1,0 +1,15 @@
+use borrow.Author.Rules.{rules}
+use lib.Dec.{lit<}
+use Rattle.device.specs.Layout.{ier_part, isr_part, state_of}
+use Rattle.device.proofs.HeldSteps.{state-sized, ier-kept}
+use Rattle.device.proofs.PartWords.{heads-set, ier-stored}
+use Rattle.device.proofs.StateLayout.{head-part}
+use Rattle.device.proofs.flags.rewrite_ier.Goals as goal
+
+pub returns : goal.returns
+unfolding state_of
+returns c =
+    let a = c.args in
+    ier-kept (state_of a.state.now) a.x a.new (state-sized a.state.now c.requires.0) c.requires.1 c.keep.ensures c.requires.2
+    (ier-stored a.x a.new (heads-set ier_part a.x a.new c.requires.0 (lit< tt) c.store_in.ensures))
+    (simp (c.word_in-isr.ensures, head-part c.store_in.new.0 isr_part (lit< tt)))

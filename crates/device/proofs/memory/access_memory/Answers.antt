@@ -1,0 +1,55 @@
+use borrow.Author.Rules.{rules}
+use mathlib.Core.Path.{ap, ◌∙◌}
+use Prim.Native.Nat.{◌<◌}
+use lib.ListN.{length}
+use Rattle.risaf.specs.Guards.{guard_count}
+use Rattle.risaf.specs.Memory.{faulted}
+use Rattle.risaf.proofs.Shapes.{place-lt}
+use Rattle.device.specs.Layout.{state_of}
+use Rattle.device.specs.State.{flagged}
+use Rattle.device.proofs.GuardSteps.{memory-rejected, memory-granted, memory-refused}
+use Rattle.device.proofs.GuardLayout.{regions-read, regions-length}
+use Rattle.device.proofs.memory.access_memory.Goals as goal
+
+pub returns-in_default : goal.returns-in_default
+returns-in_default c =
+    let m = c.memory_checked-checked in
+    let a = c.args in
+    memory-rejected (state_of a.state.now) a.there a.guard.0 a.o a.width a.k c.shape-shape.ensures m.ensures
+    c.in_default.in_default-own.keys2
+
+pub returns-then-verdict-eq-NO_REASON : goal.returns-then-verdict-eq-NO_REASON
+returns-then-verdict-eq-NO_REASON c =
+    let a = c.args in
+    let es = c.shape.ensures in
+    let l : c.shape.result.place < guard_count = rw es (place-lt _) in
+    let ew = c.region_words.ensures ∙ regions-read a.state.now _ c.requires l in
+    memory-granted (state_of a.state.now) a.there a.guard.0 a.o a.width a.k es c.memory-checked.ensures
+    c.enum_told.given.1 ew (ap length ew ∙ regions-length a.state.now _ c.requires l) c.decide-verdict.ensures c.if-verdict-eq-NO_REASON.true
+
+pub load_faults-requires : goal.load_faults-requires
+load-faults-requires c κs =
+    let g = c.before.before.before.before.before.before.before.before.before.before.before in
+    (g.before.before.requires, rw g.shape.ensures (place-lt _))
+
+pub store_faults-requires : goal.store_faults-requires
+store-faults-requires c κs =
+    let g = c.before.before.before.before.before.before.before.before.before.before.before.before.before.before in
+    (g.before.before.requires, rw g.shape.ensures (place-lt _))
+
+pub raise-requires : goal.raise-requires
+raise-requires c κs =
+    let s = c.before.before.before.before.before.before.before.before.before.before.before.before.before.before.before.before.before.before.before.before in
+    search (rules, s.requires)
+
+pub returns : goal.returns
+unfolding faulted
+returns c =
+    let a = c.args in
+    let es = c.shape.ensures in
+    let l : c.shape.result.place < guard_count = rw es (place-lt _) in
+    let ew = c.region_words.ensures ∙ regions-read a.state.now _ c.requires l in
+    memory-refused (state_of a.state.now) a.there a.guard.0 a.o a.width a.k es c.memory-checked.ensures
+    c.enum_told.given.1 ew (ap length ew ∙ regions-length a.state.now _ c.requires l) c.decide-verdict.ensures c.if-verdict-eq-NO_REASON.false
+    (c.raise.ensures
+    ∙ ap (flagged _) (c.store_faults.ensures ∙ rw (c.recorded-faults.ensures, c.hears-heard.ensures, c.load_faults.ensures)))

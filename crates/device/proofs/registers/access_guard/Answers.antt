@@ -1,0 +1,87 @@
+-- `device::registers::access_guard` meets its contract, by how the access ends.
+use mathlib.Core.Path.{refl, ap, ◌∙◌}
+use borrow.Author.Tests.{not-true, not-false}
+use lib.Dec.{lit<}
+use Rattle.risaf.proofs.RowPlaces.{place-fits}
+use Rattle.risaf.proofs.Shapes.{place-lt}
+use Rattle.device.specs.Layout.{state_of}
+use Rattle.device.specs.State.{flagged}
+use Rattle.device.proofs.GuardSteps.{register-no-guard, register-misaligned, register-unknown, register-answer, register-written, register-refused, register-rejected}
+use borrow.Author.Rules.{rules}
+use Rattle.device.proofs.registers.access_guard.Goals as goal
+
+pub read_guard-requires : goal.read_guard-requires
+read-guard-requires c κs =
+    let s = c.before.before.before.before in
+    (s.requires, not-true s.args.q.write c.before.if1.true)
+
+pub returns-then-not-q : goal.returns-then-not-q
+returns-then-not-q c =
+    (c.read_guard.ensures.answer, c.read_guard.ensures.next)
+
+pub returns-then-not-shape : goal.returns-then-not-shape
+returns-then-not-shape c =
+    let a = c.args in
+    let t = state_of a.state.now in
+    register-no-guard t a.guard a.q c.shape-shape.ensures refl (not-true c.shape-shape.result.there c.if-not-shape.true)
+
+pub returns-then-q-ne0 : goal.returns-then-q-ne0
+returns-then-q-ne0 c =
+    let a = c.args in
+    let t = state_of a.state.now in
+    register-misaligned t a.guard a.q c.shape-shape.ensures refl (not-false c.shape-shape.result.there c.if-not-shape.false) c.if-q-ne0.true
+
+pub returns-then-not-row : goal.returns-then-not-row
+returns-then-not-row c =
+    let a = c.args in
+    let t = state_of a.state.now in
+    register-unknown t a.guard a.q c.shape-shape.ensures c.row_at-row.ensures (not-false c.shape-shape.result.there c.if-not-shape.false) c.if-q-ne0.false (not-true c.row_at-row.result.known c.if-not-row.true)
+
+pub load_port-requires : goal.load_port-requires
+load-port-requires c κs =
+    (c.before.before.before.before.before.before.before.before.before.before.before.before.requires, rw c.before.before.before.before.before.before.before.before.shape.ensures (place-lt _))
+
+pub store_word-requires : goal.store_word-requires
+store-word-requires c κs =
+    (c.before.before.before.before.before.before.before.before.before.before.before.before.before.before.before.before.before.before.requires, rw c.before.before.before.before.before.before.before.before.before.before.before.before.before.before.shape.ensures (place-lt _), rw c.before.before.before.before.before.before.before.before.before.row_at.ensures (place-fits _ _))
+
+pub store_word-requires-in-Refused : goal.store_word-requires-in-Refused
+store-word-requires-2 c κs =
+    (c.before.before.before.before.before.before.before.before.before.before.before.before.before.before.before.before.before.before.requires, rw c.before.before.before.before.before.before.before.before.before.before.before.before.before.before.shape.ensures (place-lt _), lit< tt)
+
+pub raise-requires : goal.raise-requires
+raise-requires c κs =
+    let p = c.before.before.before.before.before.before.before.before.before.before.before.before.before.before.before.before.before.before.before.before.before.before.requires in
+    let k = c.before.before.state3.given in
+    let l = c.before.slice-known4.given in
+    search (rules, p, k, l)
+
+pub returns-in-Done : goal.returns-in-Done
+returns-in-Done c =
+    let a = c.args in
+    let t = state_of a.state.now in
+    let es = c.shape.ensures in
+    let er = c.row_at.ensures in
+    let ep = c.load_port.ensures in
+    let ea = c.access-accessed.ensures in
+    (register-answer t a.guard a.q es er ep ea, register-written t a.guard a.q es er ep ea c.in-Done.is (not-false a.q.write c.if1.false) c.Store-word.ensures)
+
+pub returns-in-Refused : goal.returns-in-Refused
+returns-in-Refused c =
+    let a = c.args in
+    let t = state_of a.state.now in
+    let es = c.shape-shape.ensures in
+    let er = c.row_at-row.ensures in
+    let ep = c.load_port.ensures in
+    let ea = c.access-accessed.ensures in
+    (register-answer t a.guard a.q es er ep ea, register-refused t a.guard a.q es er ep ea c.in-Refused.is (c.raise.ensures ∙ ap (flagged _) c.store_word-in-Refused.ensures))
+
+pub returns-in-Rejected : goal.returns-in-Rejected
+returns-in-Rejected c =
+    let a = c.args in
+    let t = state_of a.state.now in
+    let es = c.shape.ensures in
+    let er = c.row_at.ensures in
+    let ep = c.load_port.ensures in
+    let ea = c.access-accessed.ensures in
+    (register-answer t a.guard a.q es er ep ea, register-rejected t a.guard a.q es er ep ea c.in-Rejected.is)

@@ -1,0 +1,44 @@
+-- `device::registers::access_iac` meets its contract, by how the access ends.
+use mathlib.Core.Path.{ap}
+use borrow.Author.Tests.{not-true, not-false}
+use Rattle.iac.specs.declared.registers.Row.{Row}
+use Rattle.device.specs.Layout.{state_of}
+use Rattle.device.proofs.BlockSteps.{flags-misaligned, flags-written, flags-refused, flags-rejected}
+use borrow.Author.Rules.{rules}
+use Rattle.device.proofs.registers.access_iac.Goals as goal
+
+pub returns-then-q-ne0 : goal.returns-then-q-ne0
+returns-then-q-ne0 c =
+    let a = c.args in
+    flags-misaligned (state_of a.state.now) a.q c.if-q-ne0.true
+
+pub read_iac-requires : goal.read_iac-requires
+read-iac-requires c κs =
+    let s = c.before.before.before.before.before.before in
+    (s.requires, not-true s.args.q.write c.before.if2.true)
+
+pub returns-then-not-q : goal.returns-then-not-q
+returns-then-not-q c =
+    (c.read_iac.ensures.answer, c.read_iac.ensures.next)
+
+pub rewrite-requires : goal.rewrite-requires
+rewrite-requires c κs =
+    (c.before.before.before.before.before.before.before.before.before.before.before.before.before.before.requires, ap (λ (r : Row). r.named) c.before.before.before.before.before.before.before.row.ensures, c.before.before.before.before.before.load_word.ensures)
+
+pub returns-in-Done : goal.returns-in-Done
+returns-in-Done c =
+    let a = c.args in
+    flags-written (state_of a.state.now) a.q c.register-at.ensures c.row.ensures c.load_word.ensures c.access-accessed.ensures
+    c.in-Done.is (not-false a.q.write c.if2.false) c.rewrite.ensures
+
+pub returns-in-Refused : goal.returns-in-Refused
+returns-in-Refused c =
+    let a = c.args in
+    flags-refused (state_of a.state.now) a.q c.register-at.ensures c.row.ensures c.load_word.ensures c.access-accessed.ensures
+    c.in-Refused.is c.raise.ensures
+
+pub returns-in-Rejected : goal.returns-in-Rejected
+returns-in-Rejected c =
+    let a = c.args in
+    flags-rejected (state_of a.state.now) a.q c.register-at.ensures c.row.ensures c.load_word.ensures c.access-accessed.ensures
+    c.in-Rejected.is

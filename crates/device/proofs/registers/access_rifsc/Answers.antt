@@ -1,0 +1,38 @@
+-- `device::registers::access_rifsc` meets its contract, by how the access ends.
+use borrow.Author.Tests.{not-true, not-false}
+use Rattle.device.specs.Layout.{state_of}
+use Rattle.device.proofs.BlockSteps.{controller-misaligned, controller-written, controller-refused, controller-rejected}
+use borrow.Author.Rules.{rules}
+use Rattle.device.proofs.registers.access_rifsc.Goals as goal
+
+pub returns-then-q-ne0 : goal.returns-then-q-ne0
+returns-then-q-ne0 c =
+    let a = c.args in
+    controller-misaligned (state_of a.state.now) a.q c.if-q-ne0.true
+
+pub read_rifsc-requires : goal.read_rifsc-requires
+read-rifsc-requires c κs =
+    let s = c.before.before.before.before.before.before in
+    (s.requires, not-true s.args.q.write c.before.if2.true)
+
+pub returns-then-not-q : goal.returns-then-not-q
+returns-then-not-q c =
+    (c.read_rifsc.ensures.answer, c.read_rifsc.ensures.next)
+
+pub returns-in-Done : goal.returns-in-Done
+returns-in-Done c =
+    let a = c.args in
+    controller-written (state_of a.state.now) a.q c.register-at.ensures c.row.ensures c.load_seen.ensures c.access-accessed.ensures
+    c.in-Done.is (not-false a.q.write c.if2.false) c.store_register.ensures
+
+pub returns-in-Refused : goal.returns-in-Refused
+returns-in-Refused c =
+    let a = c.args in
+    controller-refused (state_of a.state.now) a.q c.register-at.ensures c.row.ensures c.load_seen.ensures c.access-accessed.ensures
+    c.in-Refused.is c.raise.ensures
+
+pub returns-in-Rejected : goal.returns-in-Rejected
+returns-in-Rejected c =
+    let a = c.args in
+    controller-rejected (state_of a.state.now) a.q c.register-at.ensures c.row.ensures c.load_seen.ensures c.access-accessed.ensures
+    c.in-Rejected.is

@@ -1,0 +1,35 @@
+-- `device::registers::read_guard` meets its contract: refused or not.
+use mathlib.Core.Bool.{true}
+use mathlib.Core.Path.{ap, ◌∙◌}
+use lib.Dec.{lit<}
+use Rattle.words.specs.Bit.{with_bit}
+use Rattle.risaf.specs.declared.memory.Faults.{Faults}
+use Rattle.risaf.proofs.Shapes.{place-lt}
+use Rattle.device.specs.Layout.{state_of}
+use Rattle.device.specs.State.{flagged}
+use Rattle.device.proofs.GuardSteps.{register-read-kept, register-read-refused}
+use borrow.Author.Rules.{rules}
+use Rattle.device.proofs.registers.read_guard.Goals as goal
+
+pub read_register-answer-requires : goal.read_register-answer-requires
+read-register-requires c κs =
+    (c.before.before.before.requires.0, rw c.before.shape.ensures (place-lt _))
+
+pub load_faults-faults-requires : goal.load_faults-faults-requires
+load-faults-requires c κs =
+    (c.before.before.before.before.before.before.before.requires.0, rw c.before.before.before.before.before.shape.ensures (place-lt _))
+
+pub store_word-requires : goal.store_word-requires
+store-word-requires c κs =
+    (c.before.before.before.before.before.before.before.before.before.before.requires.0, rw c.before.before.before.before.before.before.before.before.shape.ensures (place-lt _), lit< tt)
+
+pub returns-in-Refused : goal.returns-in-Refused
+returns-in-Refused c =
+    let t = state_of c.args.state.now in
+    let e = c.with_bit.ensures ∙ ap (λ (f : Faults). with_bit 32 f.iasr 0 true) c.load_faults-faults.ensures in
+    register-read-refused t c.args.guard c.args.q c.requires.1 c.shape.ensures c.read_register-answer.ensures c.in-Refused.is e (c.raise.ensures ∙ ap (flagged _) c.Store-word.ensures)
+
+pub returns-in_default : goal.returns-in_default
+returns-in_default c =
+    let t = state_of c.args.state.now in
+    register-read-kept t c.args.guard c.args.q c.requires.1 c.shape.ensures c.read_register-answer.ensures c.in_default.in_default-own.keys2

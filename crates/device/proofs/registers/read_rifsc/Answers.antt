@@ -1,0 +1,9 @@
+-- `device::registers::read_rifsc` meets its contract.
+use Rattle.device.specs.Layout.{state_of}
+use Rattle.device.proofs.BlockSteps.{controller-read}
+use borrow.Author.Rules.{rules}
+use Rattle.device.proofs.registers.read_rifsc.Goals as goal
+
+pub returns : goal.returns
+returns c =
+    controller-read (state_of c.args.state.now) c.args.q c.requires.1 c.register_at-reg.ensures c.row.ensures c.stored.ensures c.read.ensures

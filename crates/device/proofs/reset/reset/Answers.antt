@@ -1,0 +1,25 @@
+use mathlib.Core.Path.{◌≡◌, refl, ap, ◌∙◌}
+use Prim.Native.Nat.{ℕ, ◌≤◌, ◌-◌}
+use native.Mathlib.Omega.{arith}
+use borrow.Author.Rules.{rules}
+use lib.ListN.{length}
+use Rattle.device.specs.Layout.{state_of, state_words}
+use Rattle.device.specs.State.{with_guards}
+use Rattle.device.proofs.ResetGuards.{reset_below, numbers, reset-more, state-reset}
+use Rattle.device.proofs.reset.reset.Goals as goal
+
+pub loop-n-preserved : goal.loop-n-preserved
+loop-n-preserved c =
+    let l = c.loop-n in
+    let u = c.reset_guard in
+    let m = c.store_iac.new.0 in
+    (search rules, u.auto.0 ∙ l.invariant.1, u.ensures ∙ reset-more (state_of m) l.n l.invariant.2)
+
+pub returns : goal.returns
+returns c =
+    let l = c.loop-n in
+    let e : l.n ≡ numbers = omega arith in
+    let m = c.store_iac.new.0 in
+    let s = state_of c.args.state.now in
+    l.invariant.2 ∙ ap (λ (n : ℕ). with_guards (state_of m) (reset_below n (state_of m).guards)) e
+    ∙ state-reset m s c.reset.ensures c.store_rifsc.ensures c.reset-2.ensures c.store_iac.ensures

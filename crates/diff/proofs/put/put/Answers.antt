@@ -1,0 +1,53 @@
+-- `diff::put::put` meets its contract: at each return the tests that led there say which way the span went.
+use mathlib.Core.Path.{sym, ◌∙◌}
+use native.Mathlib.Omega.{arith}
+use lib.ListN.{length-set}
+use borrow.Author.Rules.{rules}
+use Rattle.diff.proofs.Added.{continues-some, put-none, put-grows, put-adds}
+use Rattle.diff.proofs.put.put.Goals as goal
+
+pub returns-then-old-new : goal.returns-then-old-new
+returns-then-old-new c =
+    let a = c.args in
+    put-none a.lent.now a.count a.start a.end a.old a.new c.if-old-new.true
+
+pub overflow_sub-lent : goal.overflow_sub-lent
+overflow_sub-lent c =
+    let k = c.continues in
+    let a = c.args in
+    omega (arith, continues-some a.lent.now a.count a.start a.old a.new (sym k.ensures ∙ c.if-continues.true))
+
+pub bounds-lent-i : goal.bounds-lent-i
+bounds-lent-i c = search rules
+
+pub returns-then-continues : goal.returns-then-continues
+returns-then-continues c =
+    let a = c.args in
+    put-grows a.lent.now a.count a.start a.end a.old a.new c.if1.false (sym c.continues.ensures ∙ c.if-continues.true)
+
+pub bounds-lent-i-3 : goal.bounds-lent-i-3
+bounds-lent-i-3 c = simp length-set (omega arith)
+
+pub bounds-lent-i-4 : goal.bounds-lent-i-4
+bounds-lent-i-4 c = simp length-set (omega arith)
+
+pub bounds-lent-i-5 : goal.bounds-lent-i-5
+bounds-lent-i-5 c = simp length-set (omega arith)
+
+pub bounds-lent-i-6 : goal.bounds-lent-i-6
+bounds-lent-i-6 c = simp length-set (omega arith)
+
+pub returns : goal.returns
+returns c =
+    let a = c.args in
+    rw c.differing.ensures
+    (put-adds a.lent.now a.count a.start a.end a.old a.new c.if1.false (sym c.continues.ensures ∙ c.if-continues.false))
+
+pub put_spec : {M : Type 1} → statement M
+put_spec =
+    tie.close
+    (tie.spec returns-then-old-new (λ c. search rules) (λ c κs. search rules) overflow_sub-lent (λ c. search rules) bounds-lent-i
+    (λ c. search rules) returns-then-continues (λ c. search rules) (λ c. search rules) (λ c. search rules) (λ c. search rules)
+    bounds-lent-i-3 (λ c. search rules) (λ c. search rules) bounds-lent-i-4 (λ c. search rules)
+    (λ c. search rules) bounds-lent-i-5 (λ c κs. search rules) (λ c. search rules) (λ c. search rules)
+    bounds-lent-i-6 (λ c. search rules) (λ c. search rules) returns)

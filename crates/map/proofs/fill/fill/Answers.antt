@@ -1,0 +1,64 @@
+-- `map::fill::fill` meets its contract: at each return the tests that led there say how it went.
+use mathlib.Core.Path.{refl, sym, ap, ◌∙◌}
+use Rattle.risaf.specs.declared.guards.Shape.{Shape}
+use native.Mathlib.Omega.{arith}
+use borrow.Author.Rules.{rules}
+use borrow.Author.Tests.{eq-eqb, ne_eqb, le-leb, lt-leb, not-true}
+use Rattle.map.specs.Fill.{fill_answer, fill_used, fill_numbers}
+use Rattle.map.proofs.Guards.{passed, small, guard-regions}
+use Rattle.map.proofs.Made.{sweepable, made}
+use Rattle.map.proofs.Steady.{size-most}
+use Rattle.map.proofs.fill.fill.Goals as goal
+
+pub returns-then-state-ne-STATE_WORDS : goal.returns-then-state-ne-STATE_WORDS
+unfolding fill_answer fill_used fill_numbers
+returns-then-state-ne-STATE_WORDS c = simp (ne_eqb _ _ c.if-state-ne-STATE_WORDS.true) (refl, (refl, refl))
+
+pub returns-then-buffer-lt-LEAST_ROOM : goal.returns-then-buffer-lt-LEAST_ROOM
+unfolding fill_answer fill_used fill_numbers
+returns-then-buffer-lt-LEAST_ROOM c = simp (eq-eqb _ _ c.if-state-ne-STATE_WORDS.false, lt-leb _ _ c.if-buffer-lt-LEAST_ROOM.true) (refl, (refl, refl))
+
+pub returns-then-not-shape : goal.returns-then-not-shape
+unfolding fill_answer fill_used fill_numbers
+returns-then-not-shape c =
+    let s = c.shape-shape in
+    simp (
+      eq-eqb _ _ c.if-state-ne-STATE_WORDS.false,
+      le-leb _ _ c.if-buffer-lt-LEAST_ROOM.false,
+      sym (ap (λ (x : Shape). x.there) s.ensures) ∙ not-true s.result.there c.if-not-shape.true,
+    )
+    (refl, (refl, refl))
+
+pub sweep-count-requires : goal.sweep-count-requires
+sweep-requires c κs =
+    let a = c.before.before.before.before.before.before.before.before.before.args in
+    let s = c.before.before.before.before.shape.ensures in
+    sweepable a.state.now a.guard.0 a.buffer.now c.before.before.before.before.before.before.if1.false c.before.before.before.before.before.if2.false
+    (passed (ap (λ (x : Shape). x.there) c.before.before.before.before.shape.ensures) c.before.before.if3.false) s
+    (c.before.region-words.ensures ∙ rw c.before.before.before.before.shape.ensures (guard-regions a.state.now a.guard.0 c.before.before.before.before.before.before.if1.false))
+
+pub overflow_mul-used : goal.overflow_mul-used
+overflow_mul-used c =
+    let s = c.shape-shape in
+    let n = c.args.guard.0 in
+    omega (
+      arith,
+      c.sweep-count.ensures.value,
+      size-most s.result.bus c.region_words-w.result.now s.result.regions s.result.window (rw s.ensures (small n).0),
+    )
+
+pub returns : goal.returns
+returns c =
+    let a = c.args in
+    let s = c.shape-shape.ensures in
+    let u = c.sweep-count in
+    made a.state.now a.guard.0 a.buffer.now c.if-state-ne-STATE_WORDS.false c.if-buffer-lt-LEAST_ROOM.false
+    (passed (ap (λ (x : Shape). x.there) c.shape-shape.ensures) c.if-not-shape.false) s
+    (c.region_words-w.ensures ∙ rw c.shape-shape.ensures (guard-regions a.state.now a.guard.0 c.if-state-ne-STATE_WORDS.false))
+    u.ensures.value u.ensures.lent_after
+
+pub fill_spec : {M : Type 1} → statement M
+fill_spec =
+    tie.close
+    (tie.spec returns-then-state-ne-STATE_WORDS returns-then-buffer-lt-LEAST_ROOM (λ c κs. search rules) returns-then-not-shape (λ c κs. search rules) sweep-count-requires overflow_mul-used
+    (λ c. search rules) returns)

@@ -1,0 +1,30 @@
+-- `map::fill::sweep` meets its contract. The loop's invariant is `Swept`: the memory has the map of the offsets below at over its front. The
+-- inner loop's is that whatever memory it had so when the inner loop began, it has so now.
+use mathlib.Core.List.{List}
+use Prim.Native.Nat.{ℕ, ◌-◌, ◌≤◌}
+use native.Mathlib.Omega.{arith}
+use borrow.Author.Rules.{rules}
+use Rattle.regions.specs.Rights.{rights_word}
+use Rattle.regions.specs.Words.{most_regions}
+use Rattle.spans.specs.Sweep.{bounds_of}
+use Rattle.spans.proofs.Sweep.{Turn}
+use Rattle.spans.proofs.Fill.{Swept, swept-begin, swept-turn, swept-end}
+use Rattle.map.specs.Bounds.{pairs_of}
+use Rattle.map.proofs.Steady.{bounds-most}
+use Rattle.map.proofs.Turns.{ActiveFrom, active-from}
+use Rattle.map.proofs.fill.sweep.Given as goal
+
+abbrev pub invariant-loop-at-2 : goal.invariant-loop-at-2
+invariant-loop-at-2 l =
+    (l.initial.at ≤ l.at)
+    × ((l : List ℕ) → Swept (rights_word l.bus l.w l.n) (bounds_of (pairs_of l.w l.n)) l.window l l.initial.at l.initial.count l.initial.lent
+    → Swept (rights_word l.bus l.w l.n) (bounds_of (pairs_of l.w l.n)) l.window l l.at l.count l.lent)
+
+abbrev pub decreases-loop-at-2 : goal.decreases-loop-at-2
+decreases-loop-at-2 l = l.to - l.at
+
+abbrev pub invariant-loop-at : goal.invariant-loop-at
+invariant-loop-at l = Swept (rights_word l.bus l.w l.n) (bounds_of (pairs_of l.w l.n)) l.window l.initial.lent l.at l.count l.lent
+
+abbrev pub decreases-loop-at : goal.decreases-loop-at
+decreases-loop-at l = l.window - l.at

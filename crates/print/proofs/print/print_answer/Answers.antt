@@ -1,0 +1,30 @@
+-- `print::print::print_answer` meets its contract: its parts, one after the other, are the line.
+use borrow.Author.Rules.{rules}
+use native.Mathlib.Omega.{arith}
+use lib.ListN.{length-append}
+use Rattle.print.specs.Print.{answer_line, decimal_text}
+use Rattle.print.proofs.Digits.{answer-length, digits-length}
+use Rattle.print.proofs.Writing.{join, part-ends, refused, whole}
+use Rattle.print.proofs.print.print_answer.Goals as goal
+
+pub returns-then-out-at : goal.returns-then-out-at
+returns-then-out-at c =
+    let a = c.args in
+    refused a.out.now a.at (answer_line a.number a.value) (omega arith)
+
+pub returns-then-out-at-2 : goal.returns-then-out-at-2
+returns-then-out-at-2 c =
+    let a = c.args in
+    refused a.out.now a.at (answer_line a.number a.value) (omega (arith, answer-length a.number a.value))
+
+pub put_value-requires : goal.put_value-requires
+put-value-requires c κs =
+    let d = c.before.before.before in
+    let a = d.before.before.before.before in
+    omega (arith, simp (length-append, digits-length) at (part-ends (join a.put.ensures d.put-digits.ensures)))
+
+pub returns : goal.returns
+unfolding decimal_text answer_line
+returns c =
+    rw (← c.width-count.ensures.0)
+    (whole (join (join c.put-a.ensures c.put_digits-b.ensures) c.put_value.ensures))

@@ -1,0 +1,22 @@
+-- `print::print::print_labelled` meets its contract: its parts, one after the other, are the line.
+use borrow.Author.Rules.{rules}
+use native.Mathlib.Omega.{arith}
+use Rattle.print.specs.Print.{decimal_text, label_line}
+use Rattle.print.proofs.Digits.{label-length}
+use Rattle.print.proofs.Writing.{join, refused, whole}
+use Rattle.print.proofs.print.print_labelled.Goals as goal
+
+pub returns-then-out-at : goal.returns-then-out-at
+returns-then-out-at c =
+    let a = c.args in
+    refused a.out.now a.at (label_line a.label.now a.n) (omega arith)
+
+pub returns-then-out-at-2 : goal.returns-then-out-at-2
+returns-then-out-at-2 c =
+    let a = c.args in
+    refused a.out.now a.at (label_line a.label.now a.n) (omega (arith, label-length a.label.now a.n))
+
+pub returns : goal.returns
+unfolding decimal_text label_line
+returns c =
+    rw (← c.width-count.ensures.0) (whole (join c.put-a.ensures c.put_digits.ensures))

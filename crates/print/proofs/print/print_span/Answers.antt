@@ -1,0 +1,42 @@
+-- `print::print::print_span` meets its contract: its parts, one after the other, are the line.
+use borrow.Author.Rules.{rules}
+use native.Mathlib.Omega.{arith}
+use lib.ListN.{length-append}
+use Rattle.print.specs.Print.{span_line}
+use Rattle.print.proofs.Digits.{digits-length, span-length}
+use Rattle.print.proofs.Writing.{join, part-ends, refused, whole}
+use Rattle.print.proofs.print.print_span.Goals as goal
+
+pub returns-then-out-lt-SPAN_LENGTH : goal.returns-then-out-lt-SPAN_LENGTH
+returns-then-out-lt-SPAN_LENGTH c =
+    let a = c.args in
+    refused a.out.now a.at (span_line a.start a.end a.rights)
+    (omega (arith, span-length a.start a.end a.rights))
+
+pub returns-then-out-at : goal.returns-then-out-at
+returns-then-out-at c =
+    let a = c.args in
+    refused a.out.now a.at (span_line a.start a.end a.rights)
+    (omega (arith, span-length a.start a.end a.rights))
+
+pub put_hex-c-requires : goal.put_hex-c-requires
+put-hex-requires-2 c κs =
+    let d = c.before.before.before in
+    let a = d.before.before.before.before in
+    omega (arith, simp (length-append, digits-length) at (part-ends (join a.put.ensures d.put-hex.ensures)))
+
+pub put_rights-requires : goal.put_rights-requires
+put-rights-requires c κs =
+    let e = c.before.before.before in
+    let d = e.before.before.before.before in
+    let a = d.before.before.before.before in
+    let w = join (join a.put.ensures d.put-hex.ensures) e.put-hex2.ensures in
+    omega (arith, simp (length-append, digits-length) at (part-ends w), a.before.before.before.if2.false, a.before.before.before.before.if1.false)
+
+pub returns : goal.returns
+unfolding span_line
+returns c =
+    whole
+    (join
+    (join (join c.put-a.ensures c.put_hex-b.ensures) c.put_hex-c.ensures)
+    c.put_rights.ensures)

@@ -1,0 +1,11 @@
+-- `print::print::put_digits` meets its contract: the digits written, with those left, are all of them.
+use borrow.Author.Rules.{rules}
+use lib.ListN.{length-set}
+use Rattle.print.proofs.Digits.{Left, all_left, decimal-is, none_left, one_less}
+use Rattle.print.proofs.print.put_digits.Given as goal
+
+abbrev pub invariant-loop-k : goal.invariant-loop-k
+invariant-loop-k l = Left 10 l.initial.out l.at l.n l.count l.out l.m l.k
+
+abbrev pub decreases-loop-k : goal.decreases-loop-k
+decreases-loop-k l = l.k

@@ -1,0 +1,15 @@
+-- `print::print::put_rights` meets its contract: eight digits, and eight more.
+use borrow.Author.Rules.{rules}
+use mathlib.Core.List.{append_assoc}
+use native.Mathlib.Omega.{arith}
+use Rattle.print.proofs.HexDigits.{sixteen-digits}
+use Rattle.print.proofs.Writing.{join, part-ends}
+use Rattle.print.proofs.print.put_rights.Goals as goal
+
+pub put_hex-requires : goal.put_hex-requires
+put-hex-requires c κs = omega (arith, part-ends c.before.before.before.put.ensures)
+
+pub returns : goal.returns
+returns c =
+    let a = c.args in
+    rw (sixteen-digits a.rights, append_assoc, ← c.hex_digits.ensures) (join c.put-a.ensures c.put_hex.ensures)

@@ -1,0 +1,22 @@
+-- `print::print::width` meets its contract: the digits counted and those left are all of them.
+use borrow.Author.Rules.{rules}
+use mathlib.Core.Path.{◌≡◌}
+use Prim.Native.Nat.{◌+◌, ◌≤◌}
+use native.Mathlib.Omega.{arith}
+use Rattle.print.specs.Print.{width_of}
+use Rattle.print.proofs.Digits.{width_one, width-more, width-bound}
+use Rattle.print.proofs.print.width.Goals as goal
+
+pub loop-m-init : goal.loop-m-init
+loop-m-init c = (omega arith, width-bound 19 c.args.n (omega arith))
+
+pub loop-m-preserved : goal.loop-m-preserved
+loop-m-preserved c = (omega (arith, width-more c.loop-m.m c.loop-m-test.true), c.loop-m.invariant.1)
+
+pub returns : goal.returns
+returns c = omega (arith, width_one c.loop-m.m c.loop-m-test.false)
+
+pub width_spec : {M : Type 1} → statement M
+width_spec =
+    tie.close
+    (tie.spec invariant-loop-m decreases-loop-m loop-m-init (λ c. search rules) (λ c. search rules) loop-m-preserved returns)

@@ -1,0 +1,18 @@
+use borrow.Author.Rules.{rules}
+use borrow.Author.Tests.{not-true, not-false}
+use Rattle.regions.specs.Masks.{sub_gathered}
+use Rattle.regions.proofs.masks.sub_gathered.Goals as goal
+
+pub returns-then-not-covers : goal.returns-then-not-covers
+unfolding sub_gathered
+returns-then-not-covers c = simp (← c.covers.ensures, not-true c.covers.result c.if-not-covers.true)
+
+pub returns-then-privileged : goal.returns-then-privileged
+unfolding sub_gathered
+returns-then-privileged c =
+    simp (c.if-privileged.true, ← c.covers.ensures, not-false c.covers.result c.if-not-covers.false, ← c.serving-opens.ensures) c.with_sub_privileged.ensures
+
+pub returns : goal.returns
+unfolding sub_gathered
+returns c =
+    simp (c.if-privileged.false, ← c.covers.ensures, not-false c.covers.result c.if-not-covers.false, ← c.serving-opens.ensures) c.with_sub.ensures

@@ -1,0 +1,53 @@
+use mathlib.Core.Path.{ap, sym, ◌∙◌}
+use Prim.Native.Nat.{ℕ, ◌/◌, ◌%◌}
+use borrow.Author.Rules.{rules}
+use borrow.Author.Tests.{lt-leb, le-leb}
+use Rattle.access.proofs.Heard.{heard-cid}
+use Rattle.access.specs.declared.kind.Kind.{Kind}
+use Rattle.regions.specs.Admits.{governed}
+use Rattle.regions.specs.Lent.{decided_in}
+use Rattle.regions.specs.Rules.{reason_of, tests0}
+use Rattle.regions.proofs.Askings.{zero_default, packed-decided}
+use Rattle.regions.proofs.Enough.{decided-enough}
+use Rattle.regions.proofs.rules.decide.Goals as goal
+
+pub returns-then-n-gt-MOST_REGIONS : goal.returns-then-n-gt-MOST_REGIONS
+unfolding decided_in
+returns-then-n-gt-MOST_REGIONS c = simp (lt-leb _ _ c.if-n-gt-MOST_REGIONS.true)
+
+pub returns-then-w-n : goal.returns-then-w-n
+unfolding decided_in
+returns-then-w-n c = simp (le-leb _ _ c.if-n-gt-MOST_REGIONS.false, lt-leb _ _ c.if-w-n.true)
+
+pub returns-then-k : goal.returns-then-k
+unfolding decided_in
+returns-then-k c =
+    simp (le-leb _ _ c.if-n-gt-MOST_REGIONS.false, le-leb _ _ c.if-w-n.false, lt-leb _ _ c.if-k.true)
+
+pub governed-v-requires : goal.governed-v-requires
+governed-requires c κs =
+    let b = c.before.before.before.before in
+    let a = b.before.before.before.args in
+    (b.before.if1.false, b.if2.false, rw c.hears.ensures (heard-cid a.bus a.k c.before.if3.false))
+
+pub default_reason-reason-requires : goal.default_reason-reason-requires
+default-reason-requires c κs =
+    let e = c.before.before in
+    let a = e.before.before.before.before.before.before.before.args in
+    rw e.hears.ensures (heard-cid a.bus a.k e.before.if3.false)
+
+pub returns-then-v-eq0 : goal.returns-then-v-eq0
+returns-then-v-eq0 c =
+    let a = c.args in
+    zero_default a.bus a.w.now a.n a.o a.k
+    (ap (governed a.w.now a.n a.o) (sym c.hears-heard.ensures) ∙ sym c.governed-v.ensures ∙ c.if-v-eq0.true)
+    (c.default_reason-reason.ensures ∙ ap (λ (k : Kind). reason_of (tests0 a.bus k)) c.hears-heard.ensures)
+    ∙ sym (decided-enough a.bus a.w.now a.n a.o c.if-n-gt-MOST_REGIONS.false c.if-w-n.false a.k c.if-k.false)
+
+pub returns : goal.returns
+returns c =
+    let a = c.args in
+    let v = c.governed-v.ensures ∙ ap (governed a.w.now a.n a.o) c.hears-heard.ensures in
+    ap (λ (v : ℕ). record { rule = v % 4; reason = v / 4 }) v
+    ∙ packed-decided a.bus a.w.now a.n a.o a.k (λ z. c.if-v-eq0.false (v ∙ z))
+    ∙ sym (decided-enough a.bus a.w.now a.n a.o c.if-n-gt-MOST_REGIONS.false c.if-w-n.false a.k c.if-k.false)

@@ -1,0 +1,47 @@
+use borrow.Author.Rules.{rules}
+use mathlib.Core.Bool.{true, false}
+use mathlib.Core.Path.{◌∙◌}
+use native.Mathlib.Omega.{arith}
+use Rattle.regions.proofs.AdmitsTests.{none-covered}
+use Rattle.regions.proofs.Askings.{found_as, governed-none}
+use Rattle.regions.proofs.Enabled.{told_none, unenabled-uncovered}
+use Rattle.regions.proofs.rules.governed.Goals as goal
+
+pub returns-then-none_enabled : goal.returns-then-none_enabled
+returns-then-none_enabled c =
+    let a = c.args in
+    let e = told_none a.w.now c.none_enabled.ensures c.if-none_enabled.true in
+    governed-none a.w.now a.n a.o a.k c.requires.2 (unenabled-uncovered a.w.now a.n a.o c.requires.0 e)
+
+pub returns-then-first-n : goal.returns-then-first-n
+returns-then-first-n c =
+    let a = c.args in
+    let x = c.next_covering-first in
+    governed-none a.w.now a.n a.o a.k c.requires.2
+    (none-covered a.w.now a.o a.n (λ y u v. x.ensures.passed y u (omega (arith, c.if-first-n.true, v))))
+
+pub by_regions-requires : goal.by_regions-requires
+by-regions-requires c κs =
+    let p = c.before.before.before.before.before.before.requires in
+    let x = c.before.before.before.next-covering.ensures in
+    (x.high, p.1, x.passed, p.2, omega arith)
+
+pub returns-then-k : goal.returns-then-k
+returns-then-k c =
+    let a = c.args in
+    c.by_regions.ensures
+    ∙ found_as a.w.now a.n a.o a.k c.requires.2 true c.if-k.true c.next_covering-first.ensures
+    c.if-first-n.false
+
+pub by_regions-requires-2 : goal.by_regions-requires-2
+by-regions-requires-2 c κs =
+    let p = c.before.before.before.before.before.before.requires in
+    let x = c.before.before.before.next-covering.ensures in
+    (x.high, p.1, x.passed, p.2, omega arith)
+
+pub returns : goal.returns
+returns c =
+    let a = c.args in
+    c.by_regions-2.ensures
+    ∙ found_as a.w.now a.n a.o a.k c.requires.2 false c.if-k.false c.next_covering-first.ensures
+    c.if-first-n.false

@@ -1,0 +1,7 @@
+use borrow.Author.Rules.{rules}
+use Rattle.regions.specs.Admits.{verdict_of}
+use Rattle.regions.proofs.rules.judged.Goals as goal
+
+pub returns : goal.returns
+unfolding verdict_of
+returns c = simp c.reason-reason.ensures

@@ -1,0 +1,21 @@
+-- `response::line::obey` meets its contract: each kind of line by its own function.
+use borrow.Author.Rules.{rules}
+use Rattle.script.specs.Command.{command_of}
+use Rattle.response.proofs.Obeyed.{bad-line, event-line, map-line}
+use Rattle.response.proofs.line.obey.Goals as goal
+
+pub returns-in-Map : goal.returns-in-Map
+returns-in-Map c =
+    map-line c.args.state.now c.args.number (command_of c.args.line.now) c.read-line.ensures _
+    c.command.given.1 c.put_map.ensures
+
+pub returns-in_default-command : goal.returns-in_default-command
+returns-in_default-command c =
+    bad-line c.args.state.now c.args.number (command_of c.args.line.now) c.read_line-command.ensures
+    c.in_default.in_default-own.keys2 c.in_default-command.in_default-command-own.keys2 c.put_bad.ensures
+
+pub returns : goal.returns
+returns c =
+    let e = c.obey_event in
+    event-line c.args.state.now c.args.number (command_of c.args.line.now) c.read_line-command.ensures _
+    c.in-Event.is e.ensures.wrote e.ensures.state_after

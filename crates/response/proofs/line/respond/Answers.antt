@@ -1,0 +1,20 @@
+-- `response::line::respond` meets its contract: without room nothing, else the line obeyed.
+use borrow.Author.Rules.{rules}
+use native.Mathlib.Omega.{arith}
+use Rattle.response.proofs.Obeyed.{no_room, with-room}
+use Rattle.response.proofs.line.respond.Goals as goal
+
+pub returns-then-out-at : goal.returns-then-out-at
+returns-then-out-at c =
+    no_room c.args.line.now c.args.number c.args.state.now c.args.out.now c.args.at (omega (arith, c.if-out-at.true))
+
+pub returns-then-out-at-lt-RESPONSE_MOST : goal.returns-then-out-at-lt-RESPONSE_MOST
+returns-then-out-at-lt-RESPONSE_MOST c =
+    no_room c.args.line.now c.args.number c.args.state.now c.args.out.now c.args.at
+    (omega (arith, c.if-out-at.false, c.if-out-at-lt-RESPONSE_MOST.true))
+
+pub returns : goal.returns
+returns c =
+    let o = c.obey in
+    with-room c.args.line.now c.args.number c.args.state.now c.args.out.now c.args.at
+    (omega (arith, c.if-out-at.false, c.if-out-at-lt-RESPONSE_MOST.false)) o.ensures.wrote o.ensures.state_after

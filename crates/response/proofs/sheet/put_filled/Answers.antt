@@ -1,0 +1,25 @@
+-- `response::sheet::put_filled` meets its contract: the sheet where the map is made, else its answer.
+use borrow.Author.Rules.{rules}
+use Rattle.response.proofs.Sheets.{made-few, made-map, refused-map}
+use Rattle.response.proofs.sheet.put_filled.Goals as goal
+
+pub returns-then-number-ne0 : goal.returns-then-number-ne0
+returns-then-number-ne0 c =
+    let f = c.fill-filled in
+    refused-map c.args.state.now c.args.lent.now c.args.guard.0 c.requires.1 f.ensures.answer_value c.number.ensures
+    c.if-number-ne0.true c.put_answer.ensures
+
+pub put_sheet-requires : goal.put_sheet-requires
+put-sheet-requires c κs =
+    let a = c.before.before.before.before.before.before.before.before.before.before.before.before in
+    let f = c.before.before.before.before.before.before.before.fill in (
+      a.requires.0,
+      made-few a.args.state.now a.args.lent.now a.args.guard.0 a.requires.1 f.ensures.0 c.before.before.before.before.number.ensures
+          c.before.before.before.if1.false f.ensures.1.1 f.ensures.1.0 c.before.used-part.ensures,
+    )
+
+pub returns : goal.returns
+returns c =
+    let f = c.fill in
+    made-map c.args.state.now c.args.lent.now c.args.guard.0 c.requires.1 f.ensures.0 c.number.ensures
+    c.if1.false f.ensures.1.1 f.ensures.1.0 c.used_part-map.ensures c.put_sheet.ensures

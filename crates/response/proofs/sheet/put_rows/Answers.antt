@@ -1,0 +1,32 @@
+-- `response::sheet::put_rows` meets its contract: the rows so far, and then one more.
+use borrow.Author.Rules.{rules}
+use native.Mathlib.Omega.{arith}
+use mathlib.Core.Path.{◌≡◌, refl, ◌∙◌}
+use Prim.Native.Nat.{◌≤◌, ◌-◌}
+use lib.ListN.{length}
+use Rattle.print.specs.Parts.{Wrote}
+use Rattle.spans.specs.Rows.{rows_in}
+use Rattle.response.specs.Sheet.{span_lines}
+use Rattle.response.proofs.Written.{no_rows, one-row, rows-length, same_count}
+use Rattle.response.proofs.sheet.put_rows.Goals as goal
+
+pub loop-k-init : goal.loop-k-init
+loop-k-init c = (no_rows c.args.out.now c.args.map.now c.args.at (omega (arith, c.requires.0)), refl, omega arith)
+
+pub put_row-p-requires : goal.put_row-p-requires
+put-row-requires c κs =
+    let l = c.before.before.loop in
+    let a = c.before.before.before.before.before in (
+      omega (arith, l.invariant.0.next, l.invariant.1, rows-length l.k a.args.map.now, a.requires.0, c.before.loop-test.true),
+      omega (arith, a.requires.1, c.before.loop-test.true),
+    )
+
+pub loop-k-preserved : goal.loop-k-preserved
+loop-k-preserved c =
+    let l = c.loop-k in
+    (one-row c.args.map.now l.k l.invariant.0 c.put_row-p.ensures, c.put_row-p.auto.0 ∙ l.invariant.1, omega (arith, c.loop-k-test.true))
+
+pub returns : goal.returns
+returns c =
+    let l = c.loop-k in
+    same_count c.args.map.now (omega (arith, l.invariant.2, c.loop-k-test.false)) l.invariant.0

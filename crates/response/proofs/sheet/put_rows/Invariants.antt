@@ -1,0 +1,17 @@
+-- `response::sheet::put_rows` meets its contract: the rows so far, and then one more.
+use borrow.Author.Rules.{rules}
+use native.Mathlib.Omega.{arith}
+use mathlib.Core.Path.{◌≡◌, refl, ◌∙◌}
+use Prim.Native.Nat.{◌≤◌, ◌-◌}
+use lib.ListN.{length}
+use Rattle.print.specs.Parts.{Wrote}
+use Rattle.spans.specs.Rows.{rows_in}
+use Rattle.response.specs.Sheet.{span_lines}
+use Rattle.response.proofs.Written.{no_rows, one-row, rows-length, same_count}
+use Rattle.response.proofs.sheet.put_rows.Given as goal
+
+abbrev pub invariant-loop-k : goal.invariant-loop-k
+invariant-loop-k l = Wrote l.initial.out l.at (span_lines (rows_in l.k l.map)) l.out l.p × (length l.out ≡ length l.initial.out) × (l.k ≤ l.count)
+
+abbrev pub decreases-loop-k : goal.decreases-loop-k
+decreases-loop-k l = l.count - l.k

@@ -1,0 +1,7 @@
+use borrow.Author.Rules.{rules}
+use Rattle.rifsc.specs.Registers.{ppsr}
+use Rattle.rifsc.proofs.registers.ppsr.Goals as goal
+
+pub returns : goal.returns
+unfolding ppsr
+returns c = c.word_at.ensures

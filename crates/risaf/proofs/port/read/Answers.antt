@@ -1,0 +1,62 @@
+-- `risaf::port::read` meets its contract, by the kind of register.
+use mathlib.Core.Path.{◌≡◌, ◌∙◌, refl, sym, ap}
+use Prim.Native.Nat.{◌%◌}
+use borrow.Author.Tests.{eq-eqb, ne_eqb, not-true, not-false}
+use Rattle.risaf.specs.Port.{read_answer, read_reached}
+use Rattle.risaf.specs.Rows.{Placed, row_of}
+use Rattle.risaf.proofs.PortLaws.{reading}
+use Rattle.risaf.proofs.RegisterMap.{register-placed}
+use borrow.Author.Rules.{rules}
+use Rattle.risaf.proofs.port.read.Goals as goal
+
+pub returns-then-not-shape : goal.returns-then-not-shape
+unfolding read_answer
+returns-then-not-shape c =
+    simp (not-true c.args.shape.there c.if-not-shape.true)
+
+pub returns-then-q-ne0 : goal.returns-then-q-ne0
+unfolding read_answer
+returns-then-q-ne0 c =
+    let a = c.args in
+    simp (not-false a.shape.there c.if-not-shape.false, ne_eqb (a.q.offset % 4) 0 c.if-q-ne0.true)
+
+pub row-requires-in-OfBase : goal.row-requires-in-OfBase
+row-requires-2 c κs =
+    let p : Placed c.before.before.before.register-at.result = rw c.before.before.before.register-at.ensures (register-placed _ _) in
+    rw c.before.reg2.given.1 at p
+
+pub row-requires-in-OfSub : goal.row-requires-in-OfSub
+row-requires-3 c κs =
+    let p : Placed c.before.before.before.register-at.result = rw c.before.before.before.register-at.ensures (register-placed _ _) in
+    rw c.before.reg3.given.1 at p
+
+pub returns-in-OfHead : goal.returns-in-OfHead
+unfolding row_of
+returns-in-OfHead c =
+    let a = c.args in
+    reading a.shape a.w.now a.q (not-false a.shape.there c.if-not-shape.false) c.if-q-ne0.false c.register_at-reg.ensures (c.row.ensures ∙ rw c.in-OfHead.is refl) c.read.ensures
+
+pub returns-in-OfBase : goal.returns-in-OfBase
+unfolding row_of
+returns-in-OfBase c =
+    let a = c.args in
+    reading a.shape a.w.now a.q (not-false a.shape.there c.if-not-shape.false) c.if-q-ne0.false c.register_at-reg.ensures (c.row-in-OfBase.ensures ∙ rw c.in-OfBase.is refl) c.read-in-OfBase.ensures
+
+pub returns-in-OfSub : goal.returns-in-OfSub
+unfolding row_of
+returns-in-OfSub c =
+    let a = c.args in
+    reading a.shape a.w.now a.q (not-false a.shape.there c.if-not-shape.false) c.if-q-ne0.false c.register_at-reg.ensures (c.row-in-OfSub.ensures ∙ rw c.in-OfSub.is refl) c.read-in-OfSub.ensures
+
+pub returns-in-Unknown : goal.returns-in-Unknown
+unfolding row_of read_reached
+returns-in-Unknown c =
+    let a = c.args in
+    reading a.shape a.w.now a.q (not-false a.shape.there c.if-not-shape.false) c.if-q-ne0.false c.register_at-reg.ensures (ap row_of (sym c.in-Unknown.is)) refl
+
+pub read_spec : {M : Type 1} → statement M
+read_spec =
+    tie.close
+    (tie.spec returns-then-not-shape returns-then-q-ne0 (λ c κs. search rules) (λ c. search rules) (λ c κs. search rules)
+    (λ c κs. search rules) (λ c. search rules) row-requires-in-OfBase (λ c κs. search rules) (λ c. search rules)
+    row-requires-in-OfSub (λ c κs. search rules) (λ c. search rules) returns-in-OfHead returns-in-OfBase returns-in-OfSub returns-in-Unknown)

@@ -1,0 +1,19 @@
+-- `script::events::register` meets its contract.
+use borrow.Author.Rules.{rules}
+use mathlib.Core.Path.{sym, ap, ◌∙◌}
+use Rattle.script.specs.Blocks.{block_line}
+use Rattle.script.specs.declared.events.BlockField.{BlockField}
+use Rattle.script.proofs.events.register.Goals as goal
+
+pub returns-in_default : goal.returns-in_default
+returns-in_default c =
+    let l = c.args.line.now in
+    sym (c.block_at.ensures.0 ∙ ap (λ (b : BlockField). block_line b l) c.in_default.is)
+
+pub request-requires : goal.request-requires
+request-requires c κs = rw c.before.block.given.1 at c.before.before.before.block_at.ensures.1
+
+pub returns : goal.returns
+returns c =
+    let l = c.args.line.now in
+    c.request.ensures ∙ sym (c.block_at.ensures.0 ∙ ap (λ (f : BlockField). block_line f l) c.in-Is.is)

@@ -1,0 +1,14 @@
+-- `script::fields::begins` meets its contract: what is left to compare decides.
+use borrow.Author.Rules.{rules}
+use mathlib.Core.Path.{◌≡◌, sym, ◌∙◌}
+use Prim.Native.Nat.{◌+◌, ◌≤◌, ◌-◌}
+use native.Mathlib.Omega.{arith}
+use lib.ListN.{length}
+use Rattle.script.proofs.Begins.{left, begins-short, begins-four, begins-other, begins-differs, begins-step, begins-all}
+use Rattle.script.proofs.fields.begins.Given as goal
+
+abbrev pub invariant-loop-i : goal.invariant-loop-i
+invariant-loop-i l = (l.i ≤ length l.keyword) × (l.from + length l.keyword ≤ length l.line) × (left l.line l.from l.keyword l.i ≡ left l.line l.from l.keyword 0)
+
+abbrev pub decreases-loop-i : goal.decreases-loop-i
+decreases-loop-i l = length l.keyword - l.i

@@ -1,0 +1,94 @@
+-- `script::numbers::decimal_at` meets its contract: what is read so far and the rest of the field say what the whole field says.
+use borrow.Author.Rules.{rules}
+use borrow.Author.Tests.{not-true, not-false, eqb-false}
+use mathlib.Core.Bool.{Bool, true, false, not, ◌||◌, true≢false}
+use mathlib.Core.List.{List}
+use mathlib.Core.Path.{◌≡◌, refl, sym, ap, ◌∙◌}
+use Prim.Native.Nat.{ℕ, ◌+◌, ◌*◌, ◌≤◌, ◌-◌}
+use native.Mathlib.Omega.{arith}
+use lib.Dec.{eqb}
+use lib.ListN.{length, get_or}
+use Rattle.script.specs.Numbers.{is_decimal, number_most}
+use Rattle.script.specs.Places.{decimal_at}
+use Rattle.script.proofs.DecimalAt.{reads_on, decimal-bounds, decimal-past, decimal-none, decimal-begin, decimal-tab, decimal-end, decimal-stop, decimal_step, decimal-over}
+use Rattle.script.proofs.Told.{told}
+use Rattle.script.proofs.numbers.decimal_at.Goals as goal
+
+pub returns-then-line-from : goal.returns-then-line-from
+returns-then-line-from c = decimal-past _ _ c.if-line-from.true
+
+pub returns-then-not-is_decimal : goal.returns-then-not-is_decimal
+returns-then-not-is_decimal c =
+    decimal-none _ _ c.if-line-from.false
+    (told c.is_decimal.ensures (not-true c.is_decimal.result c.if-not-is_decimal.true))
+
+-- the first digit
+abbrev start : tie.Else2 invariant-loop decreases-loop → tie.Start invariant-loop decreases-loop
+start c = c.before.before.before.before.before
+
+first : (c : goal.Else-not-is_decimal) → is_decimal (get_or (start c).args.line.now (start c).args.from 0) ≡ true
+first c = told c.is_decimal.ensures (not-false c.is_decimal.result c.if-not-is_decimal.false)
+
+first-bounds : (c : goal.Else-not-is_decimal)
+    → (48 ≤ get_or (start c).args.line.now (start c).args.from 0) × (get_or (start c).args.line.now (start c).args.from 0 ≤ 57)
+first-bounds c = decimal-bounds _ (first c)
+
+pub loop-i-init : goal.loop-i-init
+loop-i-init c =
+    let w = c.if-line-from.false in
+    (omega (arith, w), omega (arith, first-bounds c), decimal-begin _ _ w (first c))
+
+pub returns-then-b-eq9 : goal.returns-then-b-eq9
+returns-then-b-eq9 c =
+    let l = c.loop-i in
+    decimal-tab _ l.n l.i c.loop-i-test.true c.if-b-eq9.true l.invariant.1 ∙ l.invariant.2
+
+pub returns-then-n-is_decimal : goal.returns-then-n-is_decimal
+returns-then-n-is_decimal c =
+    let l = c.loop-i in
+    decimal-stop _ l.n l.i c.loop-i-test.true c.if-b-eq9.false
+    (ap (λ (t : Bool). eqb l.n 0 || not t) (sym c.is_decimal-in-loop-i.ensures) ∙ c.if-n-is_decimal.true)
+    ∙ l.invariant.2
+
+or-not : (t u : Bool) → (t || not u) ≡ false → (t ≡ false) × (u ≡ true)
+or-not true u h = absurd (true≢false h)
+or-not false true h = (refl, refl)
+or-not false false h = absurd (true≢false h)
+
+-- one digit more
+abbrev line : tie.Else4 invariant-loop decreases-loop → List ℕ
+line c = c.before.before.before.before.before.before.before.before.before.before.before.args.line.now
+
+abbrev byte : tie.Else4 invariant-loop decreases-loop → ℕ
+byte c = get_or (line c) c.before.before.before.before.before.loop.i 0
+
+more : (c : goal.Else-n-is_decimal) → (eqb c.loop-i.n 0 ≡ false) × (c.is_decimal-in-loop-i.result ≡ true)
+more c = or-not _ _ c.if-n-is_decimal.false
+
+next : (c : goal.Else-n-is_decimal) → is_decimal (byte c) ≡ true
+next c = told c.is_decimal-in-loop-i.ensures (more c).1
+
+bounds : (c : goal.Else-n-is_decimal) → (48 ≤ byte c) × (byte c ≤ 57)
+bounds c = decimal-bounds (byte c) (next c)
+
+step : (c : goal.Else-n-is_decimal)
+    → reads_on (line c) (10 * c.loop-i.n + (byte c - 48)) (c.loop-i.i + 1)
+    ≡ decimal_at (line c) c.args.from
+step c =
+    let l = c.loop-i in
+    decimal_step (line c) l.n l.i c.loop-i-test.true c.if-b-eq9.false
+    (omega (arith, eqb-false l.n 0 (more c).0)) (next c)
+    ∙ l.invariant.2
+
+pub returns-then-n-gt-NUMBER_MOST : goal.returns-then-n-gt-NUMBER_MOST
+returns-then-n-gt-NUMBER_MOST c = decimal-over _ _ _ c.if-n-gt-NUMBER_MOST.true ∙ step c.before
+
+pub loop-i-preserved : goal.loop-i-preserved
+loop-i-preserved c =
+    let w = c.loop-i-test.true in
+    (omega (arith, w), c.if-n-gt-NUMBER_MOST.false, step c.before)
+
+pub returns : goal.returns
+returns c =
+    let l = c.loop-i in
+    decimal-end _ l.n l.i c.loop-i-test.false l.invariant.1 ∙ l.invariant.2

@@ -1,0 +1,42 @@
+-- `script::numbers::either_at` meets its contract.
+use borrow.Author.Rules.{rules}
+use borrow.Author.Tests.{not-true, not-false}
+use mathlib.Core.List.{[], ◌∷◌}
+use mathlib.Core.Path.{◌≡◌, sym, ap, ◌∙◌}
+use Prim.Native.Nat.{◌+◌, ◌≤◌}
+use native.Mathlib.Omega.{arith}
+use lib.ListN.{length, get_or}
+use Rattle.script.specs.Numbers.{either_of}
+use Rattle.script.specs.Places.{field_from}
+use Rattle.script.proofs.Fixed.{either-fixed, not_there, read-there}
+use Rattle.script.proofs.Told.{told}
+use Rattle.script.proofs.Places.{ends-within}
+use Rattle.script.proofs.Same.{one_byte, either-byte}
+use Rattle.script.proofs.numbers.either_at.Goals as goal
+
+pub returns-then-not-ends : goal.returns-then-not-ends
+returns-then-not-ends c =
+    not_there (either-fixed _ _ c.requires.1 c.requires.2) _ _ (told c.ends.ensures (not-true c.ends.result c.if-not-ends.true))
+
+abbrev start : tie.Else1 → tie.Start
+start c = c.before.before.before
+
+within : (c : goal.Else-not-ends) → (start c).args.from + 1 ≤ length (start c).args.line.now
+within c =
+    ends-within (start c).args.line.now ((start c).args.from + 1)
+    (told c.ends.ensures (not-false c.ends.result c.if-not-ends.false))
+
+-- the field is the byte there
+byte : (c : goal.Else-not-ends)
+    → either_of (start c).args.this (start c).args.that (get_or (start c).args.line.now (start c).args.from 0 ∷ [])
+    ≡ either_of (start c).args.this (start c).args.that (field_from (start c).args.line.now (start c).args.from)
+byte c =
+    let a = (start c).args in
+    ap (either_of a.this a.that) (sym (one_byte a.line.now a.from (omega (arith, within c))))
+    ∙ read-there (either-fixed _ _ (start c).requires.1 (start c).requires.2) _ _ (told c.ends.ensures (not-false c.ends.result c.if-not-ends.false))
+
+pub returns-then-b-this : goal.returns-then-b-this
+returns-then-b-this c = rw c.if-b-this.true at (either-byte _ _ _ ∙ byte c.before.before)
+
+pub returns-else-b-this : goal.returns-else-b-this
+returns-else-b-this c = rw c.if-b-this.false at (either-byte _ _ _ ∙ byte c.before.before)

@@ -1,0 +1,53 @@
+-- `script::numbers::operation_at` meets its contract.
+use borrow.Author.Rules.{rules}
+use borrow.Author.Tests.{not-true, not-false}
+use mathlib.Core.List.{[], ◌∷◌}
+use mathlib.Core.Path.{◌≡◌, sym, ap, ◌∙◌}
+use Prim.Native.Nat.{◌+◌, ◌≤◌}
+use native.Mathlib.Omega.{arith}
+use lib.ListN.{length, get_or}
+use Rattle.script.specs.Fields.{same}
+use Rattle.script.specs.Numbers.{operation_of}
+use Rattle.script.specs.Places.{field_from}
+use Rattle.script.proofs.Fixed.{operation-fixed, not_there, read-there}
+use Rattle.script.proofs.Told.{told}
+use Rattle.script.proofs.Places.{ends-within}
+use Rattle.script.proofs.Same.{one_byte, other_byte}
+use Rattle.script.proofs.numbers.operation_at.Goals as goal
+
+pub returns-then-not-ends : goal.returns-then-not-ends
+returns-then-not-ends c =
+    not_there operation-fixed _ _ (told c.ends.ensures (not-true c.ends.result c.if-not-ends.true))
+
+abbrev start : tie.Else1 → tie.Start
+start c = c.before.before.before
+
+within : (c : goal.Else-not-ends) → (start c).args.from + 1 ≤ length (start c).args.line.now
+within c =
+    ends-within (start c).args.line.now ((start c).args.from + 1)
+    (told c.ends.ensures (not-false c.ends.result c.if-not-ends.false))
+
+-- the field is the byte there
+byte : (c : goal.Else-not-ends)
+    → operation_of (get_or (start c).args.line.now (start c).args.from 0 ∷ []) ≡ operation_of (field_from (start c).args.line.now (start c).args.from)
+byte c =
+    let a = (start c).args in
+    ap operation_of (sym (one_byte a.line.now a.from (omega (arith, within c))))
+    ∙ read-there operation-fixed _ _ (told c.ends.ensures (not-false c.ends.result c.if-not-ends.false))
+
+pub returns-in-114 : goal.returns-in-114
+unfolding operation_of same
+returns-in-114 c = rw c.in-114.is at (byte c.before.before)
+
+pub returns-in-119 : goal.returns-in-119
+unfolding operation_of same
+returns-in-119 c = rw c.in-119.is at (byte c.before.before)
+
+pub returns-in-120 : goal.returns-in-120
+unfolding operation_of same
+returns-in-120 c = rw c.in-120.is at (byte c.before.before)
+
+pub returns-in_default : goal.returns-in_default
+returns-in_default c =
+    let k = c.in_default.in_default-own.rest in
+    other_byte _ k.0.0.1 k.0.1 k.1 ∙ byte c.before.before

@@ -1,0 +1,80 @@
+-- `stream::blocks::take_begun` meets its contract: the begun line, as far as it is kept, and then the lines behind it.
+use Rattle.std.proofs.Common.{sym, ◌∙◌, arith, length-take-le, rules}
+use borrow.Author.Tests.{not-false, not-true}
+use Rattle.stream.specs.Kept.{kept_of}
+use Rattle.stream.proofs.Begun.{begun-bad, begun-fits, begun-full, begun-last, begun-on, more}
+use Rattle.stream.proofs.Turns.{end-within}
+use Rattle.stream.proofs.blocks.take_begun.Goals as goal
+
+pub returns-then-end-block : goal.returns-then-end-block
+returns-then-end-block c =
+    let a = c.args in
+    let k = kept_of a.held a.line.now a.state.now in
+    let e = c.keep-bytes.ensures in
+    begun-last k a.block.now a.out.now a.at c.line_end-end.result c.requires.0 c.requires.1 c.line_end-end.ensures c.if-end-block.true e.value e.line_after c.stopped.ensures
+
+pub returns-then-not-has_room : goal.returns-then-not-has_room
+returns-then-not-has_room c =
+    let a = c.args in
+    let k = kept_of a.held a.line.now a.state.now in
+    begun-full k a.block.now a.out.now a.at c.line-end.result c.requires.0 c.requires.1 c.line-end.ensures c.if1.false
+    (sym c.has_room.ensures ∙ not-true c.has_room.result c.if-not-has_room.true) c.stopped-then-not-has_room.ensures
+
+pub slice_bounds-keep-end : goal.slice_bounds-keep-end
+slice_bounds-keep-end c =
+    let block = c.args.block.now in
+    let end = c.line-end.result in
+    sym (length-take-le end block (end-within block 0 end c.line-end.ensures (omega arith)))
+
+pub slice_bounds-end_line-end : goal.slice_bounds-end_line-end
+slice_bounds-end_line-end c =
+    let a = c.args in
+    let k = kept_of a.held a.line.now a.state.now in
+    begun-fits k a.block.now a.out.now a.at c.line-end.result c.requires.0 c.requires.1 c.line-end.ensures c.if1.false c.keep-bytes-2.ensures.value c.keep-bytes-2.ensures.line_after
+
+pub slice_bounds-end_line-end-2 : goal.slice_bounds-end_line-end-2
+slice_bounds-end_line-end-2 c =
+    let a = c.args in
+    let k = kept_of a.held a.line.now a.state.now in
+    sym (length-take-le c.keep2.result c.keep2.new.0
+    (begun-fits k a.block.now a.out.now a.at c.line-end.result c.requires.0 c.requires.1 c.line-end.ensures c.if1.false c.keep2.ensures.0 c.keep2.ensures.1))
+
+pub overflow_add-end : goal.overflow_add-end
+overflow_add-end c =
+    let a = c.args in
+    let k = kept_of a.held a.line.now a.state.now in
+    let within = more k a.block.now a.out.now a.at c.line-end.result c.requires.0 c.requires.1 c.line-end.ensures c.if1.false in
+    search (rules, within)
+
+pub returns-then-ended : goal.returns-then-ended
+returns-then-ended c =
+    let a = c.args in
+    let k = kept_of a.held a.line.now a.state.now in
+    let e = c.end_line-ended.ensures in
+    begun-bad k a.block.now a.out.now a.at c.line-end.result c.requires.0 c.requires.1 c.line-end.ensures c.if1.false c.keep2.ensures.0 c.keep2.ensures.1 c.requires.2
+    e.place_value e.bad_value.0 e.bad_value.1.0 e.bad_value.1.1 (sym c.has_room.ensures ∙ not-false c.has_room.result c.if2.false) c.if-ended.true c.behind_bad.ensures
+
+pub overflow_add-end-2 : goal.overflow_add-end-2
+overflow_add-end-2 c =
+    let a = c.args in
+    let k = kept_of a.held a.line.now a.state.now in
+    let within = more k a.block.now a.out.now a.at c.line-end.result c.requires.0 c.requires.1 c.line-end.ensures c.if1.false in
+    search (rules, within)
+
+pub take_lines-requires : goal.take_lines-requires
+take-lines-requires c κs =
+    let kept = c.before.before.before.before.before.before.before.before.before.before.before.before.before.before.before in
+    let room = kept.before.before.before.before in
+    let found = room.before.before.before in
+    let start = found.before.before.before.before.before in
+    let a = start.args in
+    let k = kept_of a.held a.line.now a.state.now in
+    (omega (arith, more k a.block.now a.out.now a.at found.line-end.result start.requires.0 start.requires.1 found.line-end.ensures room.before.before.if1.false), kept.keep2.auto.0 ∙ start.requires.1)
+
+pub returns : goal.returns
+returns c =
+    let a = c.args in
+    let k = kept_of a.held a.line.now a.state.now in
+    let e = c.end_line-ended.ensures in
+    begun-on k a.block.now a.out.now a.at c.line-end.result c.requires.0 c.requires.1 c.line-end.ensures c.if1.false c.keep2.ensures.0 c.keep2.ensures.1 c.requires.2
+    e.place_value e.bad_value.0 e.bad_value.1.0 e.bad_value.1.1 (sym c.has_room.ensures ∙ not-false c.has_room.result c.if2.false) c.if-ended.false c.wrapping_add_u64.ensures c.take_lines.ensures

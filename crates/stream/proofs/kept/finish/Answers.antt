@@ -1,0 +1,20 @@
+-- `stream::kept::finish` meets its contract: `bad` where bytes are kept.
+use Rattle.std.proofs.Common.{rules}
+use Rattle.stream.proofs.Memory.{end-bad, end_empty}
+use Rattle.stream.proofs.kept.finish.Goals as goal
+
+pub returns-then-held-eq0 : goal.returns-then-held-eq0
+returns-then-held-eq0 c =
+    let a = c.args in
+    end_empty a.out.now a.at a.held.number c.if-held-eq0.true
+
+pub returns : goal.returns
+returns c =
+    let a = c.args in
+    let p = c.print_bad in
+    end-bad a.out.now a.at a.held.bytes a.held.number c.if-held-eq0.false p.ensures.next p.ensures.bytes
+
+pub finish_spec : {M : Type 1} → statement M
+finish_spec =
+    tie.close
+    (tie.spec returns-then-held-eq0 (λ c κs. search rules) (λ c. search rules) returns)
