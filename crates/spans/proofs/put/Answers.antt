@@ -25,11 +25,3 @@ returns c =
     let a = c.args in
     put-adds a.lent.now a.count a.start a.end a.rights c.if-lent-count.false
     (λ some same. ⊎_elim (λ w. w.2.left same) (λ w. omega arith) c.if-count-gt0.branch)
-
-pub put_spec : {M : Type 1} → statement M
-put_spec =
-    tie.close
-    (tie.spec returns-then-lent-count (λ c. search rules) (λ c. search rules) (λ c. search rules) (λ c. search rules)
-    (λ c. search rules) (λ c. search rules) (λ c. search rules) (λ c. search rules) returns-then-lent-i (λ c. search rules)
-    (λ c. search rules) (λ c. search rules) (λ c. search rules) bounds-lent-i-3 (λ c. search rules)
-    (λ c. search rules) bounds-lent-i-4 (λ c. search rules) (λ c. search rules) returns)

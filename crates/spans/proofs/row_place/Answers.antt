@@ -10,7 +10,7 @@ use Rattle.spans.proofs.Found.{inside, outside, place-all, place_here, place-lat
 use Rattle.spans.proofs.row_place.Goals as goal
 
 pub end_place-i-requires : goal.end_place-i-requires
-end-place-requires c κs = (omega arith, omega arith)
+end_place-i-requires c = (omega arith, omega arith)
 
 pub loop-i-init : goal.loop-i-init
 loop-i-init c = let e = c.end_place-i.ensures in (e.passed, e.found)
@@ -23,15 +23,15 @@ returns-then-map-i c =
 
 -- a row that begins past the offset is passed
 later : (s : goal.Else-map-i)
-    → let a = c.args in
-    Passed a.map.now a.offset (c.loop-i.i + 3)
+    → let a = s.args in
+    Passed a.map.now a.offset (s.loop-i.i + 3)
 later s =
-    let a = c.args in
-    let f = c.loop-i.invariant.1 s.loop-i-test.true in
-    place-later a.map.now a.offset c.loop-i.i f.0 c.loop-i.invariant.0 (c.loop-i.i + 3) refl (outside _ _ _ (inl s.if-map-i.false))
+    let a = s.args in
+    let f = s.loop-i.invariant.1 s.loop-i-test.true in
+    place-later a.map.now a.offset s.loop-i.i f.0 s.loop-i.invariant.0 (s.loop-i.i + 3) refl (outside _ _ _ (inl s.if-map-i.false))
 
 pub end_place-i-requires-in-loop-i : goal.end_place-i-requires-in-loop-i
-end-place-requires-2 c κs = later c
+end_place-i-requires-in-loop-i c = later c
 
 pub loop-i-smaller : goal.loop-i-smaller
 loop-i-smaller c = omega (arith, c.end_place-i-in-loop-i.ensures.low, c.loop-i-test.true)

@@ -8,9 +8,3 @@ returns c =
     let u = c.memory_encoded-answer in
     let a = c.args in
     (u.ensures.next, ap (set a.answers.now a.i) u.ensures.answer)
-
-pub one_spec : {M : Type 1} → statement M
-one_spec =
-    tie.close
-    (tie.spec (λ c κs. search rules) (λ c. search rules) (λ c. search rules) (λ c. search rules) (λ c. search rules)
-    returns)

@@ -5,10 +5,9 @@ use Rattle.iac.proofs.HeldLaws.{fresh-most}
 use Rattle.device.proofs.flags.keep.Goals as goal
 
 pub recount-requires : goal.recount-requires
-recount-requires c κs =
-    let s = c.before.before.before.before.before.before.before in
-    let a = s.args in
-    (s.requires, rw c.before.before.fresh.ensures (fresh-most a.named a.old a.other), rw c.before.fresh2.ensures (fresh-most a.named a.new a.other))
+recount-requires c =
+    let a = c.args in
+    (c.requires, rw c.fresh-before.ensures (fresh-most a.named a.old a.other), rw c.fresh-after.ensures (fresh-most a.named a.new a.other))
 
 pub returns-then-masked : goal.returns-then-masked
 unfolding kept
@@ -18,9 +17,3 @@ returns-then-masked c =
 pub returns-else-masked : goal.returns-else-masked
 unfolding kept
 returns-else-masked c = simp (← c.masked-2.ensures, ← c.masked.ensures, eq-eqb _ _ c.if-masked.false)
-
-pub keep_spec : {M : Type 1} → statement M
-keep_spec =
-    tie.close
-    (tie.spec (λ c κs. search rules) (λ c κs. search rules) (λ c κs. search rules) (λ c κs. search rules) recount-requires
-    (λ c. search rules) returns-then-masked returns-else-masked)

@@ -14,7 +14,7 @@ use Rattle.device.proofs.StateLayout.{head-part}
 use Rattle.device.proofs.flags.raise.Goals as goal
 
 pub recount-requires : goal.recount-requires
-recount-requires c κs = (search rules, omega arith, omega (arith, one-most c.before.bit-of2.result))
+recount-requires c = (search rules, omega arith, omega (arith, one-most c.bit_of-enabled.result))
 
 pub returns-then-not-bit_of : goal.returns-then-not-bit_of
 unfolding state_of

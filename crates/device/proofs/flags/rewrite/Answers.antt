@@ -9,16 +9,16 @@ use Rattle.device.proofs.flags.rewrite.Goals as goal
 
 pub rewrite_ier-requires : goal.rewrite_ier-requires
 unfolding row_of stored
-rewrite-ier-requires c κs =
-    let p = c.before.before.before.before.before.requires in
-    let e = c.before.before.reg.given.1 in
+rewrite_ier-requires c =
+    let p = c.requires in
+    let e = c.in-Ier.is in
     (search rules, rw e at p.1, rw e at p.2)
 
 pub rewrite_isr-requires : goal.rewrite_isr-requires
 unfolding row_of stored
-rewrite-isr-requires c κs =
-    let p = c.before.before.before.before.before.requires in
-    let e = c.before.before.reg2.given.1 in
+rewrite_isr-requires c =
+    let p = c.requires in
+    let e = c.in-Icr.is in
     (search rules, rw e at p.1, rw e at p.2)
 
 pub returns-in-Ier : goal.returns-in-Ier

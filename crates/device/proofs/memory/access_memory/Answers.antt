@@ -28,19 +28,16 @@ returns-then-verdict-eq-NO_REASON c =
     c.enum_told.given.1 ew (ap length ew ∙ regions-length a.state.now _ c.requires l) c.decide-verdict.ensures c.if-verdict-eq-NO_REASON.true
 
 pub load_faults-requires : goal.load_faults-requires
-load-faults-requires c κs =
-    let g = c.before.before.before.before.before.before.before.before.before.before.before in
-    (g.before.before.requires, rw g.shape.ensures (place-lt _))
+load_faults-requires c =
+    (c.requires, rw c.shape.ensures (place-lt _))
 
 pub store_faults-requires : goal.store_faults-requires
-store-faults-requires c κs =
-    let g = c.before.before.before.before.before.before.before.before.before.before.before.before.before.before in
-    (g.before.before.requires, rw g.shape.ensures (place-lt _))
+store_faults-requires c =
+    (c.requires, rw c.shape.ensures (place-lt _))
 
 pub raise-requires : goal.raise-requires
-raise-requires c κs =
-    let s = c.before.before.before.before.before.before.before.before.before.before.before.before.before.before.before.before.before.before.before.before in
-    search (rules, s.requires)
+raise-requires c =
+    search (rules, c.requires)
 
 pub returns : goal.returns
 unfolding faulted

@@ -11,9 +11,8 @@ use borrow.Author.Rules.{rules}
 use Rattle.device.proofs.registers.access_guard.Goals as goal
 
 pub read_guard-requires : goal.read_guard-requires
-read-guard-requires c κs =
-    let s = c.before.before.before.before in
-    (s.requires, not-true s.args.q.write c.before.if1.true)
+read_guard-requires c =
+    (c.requires, not-true c.args.q.write c.if-not-q.true)
 
 pub returns-then-not-q : goal.returns-then-not-q
 returns-then-not-q c =
@@ -38,22 +37,22 @@ returns-then-not-row c =
     register-unknown t a.guard a.q c.shape-shape.ensures c.row_at-row.ensures (not-false c.shape-shape.result.there c.if-not-shape.false) c.if-q-ne0.false (not-true c.row_at-row.result.known c.if-not-row.true)
 
 pub load_port-requires : goal.load_port-requires
-load-port-requires c κs =
-    (c.before.before.before.before.before.before.before.before.before.before.before.before.requires, rw c.before.before.before.before.before.before.before.before.shape.ensures (place-lt _))
+load_port-requires c =
+    (c.requires, rw c.shape.ensures (place-lt _))
 
 pub store_word-requires : goal.store_word-requires
-store-word-requires c κs =
-    (c.before.before.before.before.before.before.before.before.before.before.before.before.before.before.before.before.before.before.requires, rw c.before.before.before.before.before.before.before.before.before.before.before.before.before.before.shape.ensures (place-lt _), rw c.before.before.before.before.before.before.before.before.before.row_at.ensures (place-fits _ _))
+store_word-requires c =
+    (c.requires, rw c.shape.ensures (place-lt _), rw c.row_at.ensures (place-fits _ _))
 
 pub store_word-requires-in-Refused : goal.store_word-requires-in-Refused
-store-word-requires-2 c κs =
-    (c.before.before.before.before.before.before.before.before.before.before.before.before.before.before.before.before.before.before.requires, rw c.before.before.before.before.before.before.before.before.before.before.before.before.before.before.shape.ensures (place-lt _), lit< tt)
+store_word-requires-in-Refused c =
+    (c.requires, rw c.shape.ensures (place-lt _), lit< tt)
 
 pub raise-requires : goal.raise-requires
-raise-requires c κs =
-    let p = c.before.before.before.before.before.before.before.before.before.before.before.before.before.before.before.before.before.before.before.before.before.before.requires in
-    let k = c.before.before.state3.given in
-    let l = c.before.slice-known4.given in
+raise-requires c =
+    let p = c.requires in
+    let k = c.state-in-Refused-1.given in
+    let l = c.slice_known-in-Refused-1.given in
     search (rules, p, k, l)
 
 pub returns-in-Done : goal.returns-in-Done

@@ -13,17 +13,16 @@ returns-then-q-ne0 c =
     flags-misaligned (state_of a.state.now) a.q c.if-q-ne0.true
 
 pub read_iac-requires : goal.read_iac-requires
-read-iac-requires c κs =
-    let s = c.before.before.before.before.before.before in
-    (s.requires, not-true s.args.q.write c.before.if2.true)
+read_iac-requires c =
+    (c.requires, not-true c.args.q.write c.if-not-q.true)
 
 pub returns-then-not-q : goal.returns-then-not-q
 returns-then-not-q c =
     (c.read_iac.ensures.answer, c.read_iac.ensures.next)
 
 pub rewrite-requires : goal.rewrite-requires
-rewrite-requires c κs =
-    (c.before.before.before.before.before.before.before.before.before.before.before.before.before.before.requires, ap (λ (r : Row). r.named) c.before.before.before.before.before.before.before.row.ensures, c.before.before.before.before.before.load_word.ensures)
+rewrite-requires c =
+    (c.requires, ap (λ (r : Row). r.named) c.row.ensures, c.load_word.ensures)
 
 pub returns-in-Done : goal.returns-in-Done
 returns-in-Done c =

@@ -11,9 +11,8 @@ returns-then-q-ne0 c =
     controller-misaligned (state_of a.state.now) a.q c.if-q-ne0.true
 
 pub read_rifsc-requires : goal.read_rifsc-requires
-read-rifsc-requires c κs =
-    let s = c.before.before.before.before.before.before in
-    (s.requires, not-true s.args.q.write c.before.if2.true)
+read_rifsc-requires c =
+    (c.requires, not-true c.args.q.write c.if2.true)
 
 pub returns-then-not-q : goal.returns-then-not-q
 returns-then-not-q c =

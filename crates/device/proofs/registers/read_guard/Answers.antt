@@ -12,16 +12,16 @@ use borrow.Author.Rules.{rules}
 use Rattle.device.proofs.registers.read_guard.Goals as goal
 
 pub read_register-answer-requires : goal.read_register-answer-requires
-read-register-requires c κs =
-    (c.before.before.before.requires.0, rw c.before.shape.ensures (place-lt _))
+read_register-answer-requires c =
+    (c.requires.0, rw c.shape.ensures (place-lt _))
 
 pub load_faults-faults-requires : goal.load_faults-faults-requires
-load-faults-requires c κs =
-    (c.before.before.before.before.before.before.before.requires.0, rw c.before.before.before.before.before.shape.ensures (place-lt _))
+load_faults-faults-requires c =
+    (c.requires.0, rw c.shape.ensures (place-lt _))
 
 pub store_word-requires : goal.store_word-requires
-store-word-requires c κs =
-    (c.before.before.before.before.before.before.before.before.before.before.requires.0, rw c.before.before.before.before.before.before.before.before.shape.ensures (place-lt _), lit< tt)
+store_word-requires c =
+    (c.requires.0, rw c.shape.ensures (place-lt _), lit< tt)
 
 pub returns-in-Refused : goal.returns-in-Refused
 returns-in-Refused c =

@@ -9,8 +9,8 @@ use Rattle.device.proofs.reset.guard_words.Goals as goal
 
 pub copy_words-requires : goal.copy_words-requires
 unfolding reset
-copy-words-requires c κs =
-    let e : length c.before.before.before.reset.result.regions ≡ regions_words = ap (λ (g : Guard). length g.regions) c.before.before.before.reset.ensures in
+copy_words-requires c =
+    let e : length c.reset-guard.result.regions ≡ regions_words = ap (λ (g : Guard). length g.regions) c.reset-guard.ensures in
     omega arith
 
 pub returns : goal.returns

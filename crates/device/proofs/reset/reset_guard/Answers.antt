@@ -9,9 +9,8 @@ use Rattle.device.proofs.reset.reset_guard.Goals as goal
 
 pub store_guard-requires : goal.store_guard-requires
 unfolding reset
-store-guard-requires c κs =
-    let s = c.before.before.before.before in
-    (s.before.before.requires, rw s.shape.ensures (place-lt _), ap length c.before.before.guard-words.ensures)
+store_guard-requires c =
+    (c.requires, rw c.shape-shape.ensures (place-lt _), ap length c.guard_words-words.ensures)
 
 pub returns-then-shape : goal.returns-then-shape
 returns-then-shape c =

@@ -18,15 +18,11 @@ returns-then-not-shape-tiles c =
     c.shape-shape.ensures c.tiles.ensures c.tiles-2.ensures c.if-not-shape-tiles.true
 
 pub walk-count-requires : goal.walk-count-requires
-walk-requires c κs =
-    let g = c.before in
-    let t = g.before.before.before in
-    let s = t.before in
-    let f = s.before in
-    let a = f.before.before.before.before.before.before.args in
+walk-count-requires c =
+    let a = c.args in
     walkable a.guard.0 a.before.now a.after.now a.numbers.now
-    f.before.before.map-sized.ensures f.before.map-sized2.ensures f.if1.false
-    s.shape.ensures t.tiles.ensures g.before.tiles2.ensures g.if2.false
+    c.map_sized.ensures c.map_sized-2.ensures c.if-not-long-map_sized.false
+    c.shape-shape.ensures c.tiles.ensures c.tiles-2.ensures c.if-not-shape-tiles.false
 
 pub overflow_mul-used : goal.overflow_mul-used
 overflow_mul-used c =
@@ -46,9 +42,3 @@ returns c =
     c.map_sized.ensures c.map_sized-2.ensures c.if-not-long-map_sized.false
     c.shape-shape.ensures c.tiles.ensures c.tiles-2.ensures c.if-not-shape-tiles.false
     c.walk-count.ensures.value c.walk-count.ensures.lent_after
-
-pub fill_spec : {M : Type 1} → statement M
-fill_spec =
-    tie.close
-    (tie.spec (λ c κs. search rules) (λ c κs. search rules) returns-then-not-long-map_sized (λ c κs. search rules) (λ c κs. search rules)
-    (λ c κs. search rules) returns-then-not-shape-tiles walk-count-requires overflow_mul-used (λ c. search rules) returns)

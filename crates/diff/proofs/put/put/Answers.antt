@@ -42,12 +42,3 @@ returns c =
     let a = c.args in
     rw c.differing.ensures
     (put-adds a.lent.now a.count a.start a.end a.old a.new c.if1.false (sym c.continues.ensures ∙ c.if-continues.false))
-
-pub put_spec : {M : Type 1} → statement M
-put_spec =
-    tie.close
-    (tie.spec returns-then-old-new (λ c. search rules) (λ c κs. search rules) overflow_sub-lent (λ c. search rules) bounds-lent-i
-    (λ c. search rules) returns-then-continues (λ c. search rules) (λ c. search rules) (λ c. search rules) (λ c. search rules)
-    bounds-lent-i-3 (λ c. search rules) (λ c. search rules) bounds-lent-i-4 (λ c. search rules)
-    (λ c. search rules) bounds-lent-i-5 (λ c κs. search rules) (λ c. search rules) (λ c. search rules)
-    bounds-lent-i-6 (λ c. search rules) (λ c. search rules) returns)

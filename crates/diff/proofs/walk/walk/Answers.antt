@@ -56,21 +56,17 @@ overflow_sub-to c =
     omega (arith, (turn-to c.loop-at.invariant c.loop-at-test.true c.near-to.ensures).above)
 
 pub put-count-requires : goal.put-count-requires
-put-requires c κs =
-    let n = c.before.before.before in
-    let t = n.before.before.before in
-    let p = t.before.before.before.before.before.requires in
-    turn-room t.before.loop.invariant t.loop-test.true n.near.ensures p.2 p.3 p.4
+put-count-requires c =
+    let p = c.requires in
+    turn-room c.loop-at.invariant c.loop-at-test.true c.near-to.ensures p.2 p.3 p.4
 
 pub past-i-requires : goal.past-i-requires
-past-requires c κs =
-    let t = c.before.before.before.before.before.before.before.before.before in
-    row-held t.before.loop.invariant.old t.loop-test.true
+past-i-requires c =
+    row-held c.loop-at.invariant.old c.loop-at-test.true
 
 pub past-j-requires : goal.past-j-requires
-past-requires-2 c κs =
-    let t = c.before.before.before.before.before.before.before.before.before.before in
-    row-held t.before.loop.invariant.new t.loop-test.true
+past-j-requires c =
+    row-held c.loop-at.invariant.new c.loop-at-test.true
 
 pub loop-at-smaller : goal.loop-at-smaller
 loop-at-smaller c =

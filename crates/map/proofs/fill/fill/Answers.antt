@@ -30,12 +30,12 @@ returns-then-not-shape c =
     (refl, (refl, refl))
 
 pub sweep-count-requires : goal.sweep-count-requires
-sweep-requires c κs =
-    let a = c.before.before.before.before.before.before.before.before.before.args in
-    let s = c.before.before.before.before.shape.ensures in
-    sweepable a.state.now a.guard.0 a.buffer.now c.before.before.before.before.before.before.if1.false c.before.before.before.before.before.if2.false
-    (passed (ap (λ (x : Shape). x.there) c.before.before.before.before.shape.ensures) c.before.before.if3.false) s
-    (c.before.region-words.ensures ∙ rw c.before.before.before.before.shape.ensures (guard-regions a.state.now a.guard.0 c.before.before.before.before.before.before.if1.false))
+sweep-count-requires c =
+    let a = c.args in
+    let s = c.shape-shape.ensures in
+    sweepable a.state.now a.guard.0 a.buffer.now c.if-state-ne-STATE_WORDS.false c.if-buffer-lt-LEAST_ROOM.false
+    (passed (ap (λ (x : Shape). x.there) c.shape-shape.ensures) c.if-not-shape.false) s
+    (c.region_words-w.ensures ∙ rw c.shape-shape.ensures (guard-regions a.state.now a.guard.0 c.if-state-ne-STATE_WORDS.false))
 
 pub overflow_mul-used : goal.overflow_mul-used
 overflow_mul-used c =
@@ -56,9 +56,3 @@ returns c =
     (passed (ap (λ (x : Shape). x.there) c.shape-shape.ensures) c.if-not-shape.false) s
     (c.region_words-w.ensures ∙ rw c.shape-shape.ensures (guard-regions a.state.now a.guard.0 c.if-state-ne-STATE_WORDS.false))
     u.ensures.value u.ensures.lent_after
-
-pub fill_spec : {M : Type 1} → statement M
-fill_spec =
-    tie.close
-    (tie.spec returns-then-state-ne-STATE_WORDS returns-then-buffer-lt-LEAST_ROOM (λ c κs. search rules) returns-then-not-shape (λ c κs. search rules) sweep-count-requires overflow_mul-used
-    (λ c. search rules) returns)

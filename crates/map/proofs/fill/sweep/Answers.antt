@@ -22,7 +22,7 @@ from-here : (s : goal.After-active_at-active)
     → let a = s.args in
     ActiveFrom a.bus a.w.now a.n a.window s.loop-at.at s.active_at-active.result
 from-here s =
-    active-from c.args.bus c.args.w.now c.args.n c.args.window s.loop-at.at c.requires.0 c.requires.1
+    active-from s.args.bus s.args.w.now s.args.n s.args.window s.loop-at.at s.requires.0 s.requires.1
     s.loop-at-test.true s.active_at-active.ensures
 
 fits-part : (s : goal.After-active_at-active)
@@ -70,10 +70,10 @@ overflow_cast-at-in-loop-at-2 c =
 
 -- the stretch that a turn is given goes on
 goes : (s : goal.After-stretch_at-stretch)
-    → let a = c.args in
-    Turn (rights_word a.bus a.w.now a.n) (bounds_of (pairs_of a.w.now a.n)) a.window c.loop-at-2.at s.stretch_at-stretch.result.to
+    → let a = s.args in
+    Turn (rights_word a.bus a.w.now a.n) (bounds_of (pairs_of a.w.now a.n)) a.window s.loop-at-2.at s.stretch_at-stretch.result.to
 goes s =
-    (from-here c.before.before).turn c.loop-at-2.at c.loop-at-2.invariant.0 s.loop-at-2-test.true s.stretch_at-stretch.ensures.to_value
+    (from-here s.before.before).turn s.loop-at-2.at s.loop-at-2.invariant.0 s.loop-at-2-test.true s.stretch_at-stretch.ensures.to_value
 
 pub overflow_sub-stretch : goal.overflow_sub-stretch
 overflow_sub-stretch c = omega (arith, (goes c.before.before).past)

@@ -18,10 +18,8 @@ returns-then-out-at-2 c =
     refused a.out.now a.at (answer_line a.number a.value) (omega (arith, answer-length a.number a.value))
 
 pub put_value-requires : goal.put_value-requires
-put-value-requires c κs =
-    let d = c.before.before.before in
-    let a = d.before.before.before.before in
-    omega (arith, simp (length-append, digits-length) at (part-ends (join a.put.ensures d.put-digits.ensures)))
+put_value-requires c =
+    omega (arith, simp (length-append, digits-length) at (part-ends (join c.put-a.ensures c.put_digits-b.ensures)))
 
 pub returns : goal.returns
 unfolding decimal_text answer_line

@@ -19,37 +19,23 @@ returns-then-out-at-2 c =
     (omega (arith, diff-length a.start a.end a.old a.new a.count))
 
 pub put_hex-c-requires : goal.put_hex-c-requires
-put-hex-requires-2 c κs =
-    let s = c.before.before.before in
-    let l = s.before.before.before.before in
-    omega (arith, simp (length-append, digits-length) at (part-ends (join l.put.ensures s.put-hex.ensures)))
+put_hex-c-requires c =
+    omega (arith, simp (length-append, digits-length) at (part-ends (join c.put-a.ensures c.put_hex-b.ensures)))
 
 pub put_rights-d-requires : goal.put_rights-d-requires
-put-rights-requires c κs =
-    let e = c.before.before.before in
-    let s = e.before.before.before.before in
-    let l = s.before.before.before.before in
-    let w = join l.put.ensures (join s.put-hex.ensures e.put-hex2.ensures) in
-    omega (arith, simp (length-append, digits-length) at (part-ends w), l.before.before.before.if2.false, l.before.before.before.before.if1.false)
+put_rights-d-requires c =
+    let w = join c.put-a.ensures (join c.put_hex-b.ensures c.put_hex-c.ensures) in
+    omega (arith, simp (length-append, digits-length) at (part-ends w), c.if-out-at-2.false, c.if-out-at.false)
 
 pub put_rights-e-requires : goal.put_rights-e-requires
-put-rights-requires-2 c κs =
-    let o = c.before.before.before in
-    let e = o.before.before.before.before in
-    let s = e.before.before.before.before in
-    let l = s.before.before.before.before in
-    let w = join (join l.put.ensures (join s.put-hex.ensures e.put-hex2.ensures)) o.put-rights.ensures in
-    omega (arith, simp (length-append, digits-length) at (part-ends w), l.before.before.before.if2.false, l.before.before.before.before.if1.false)
+put_rights-e-requires c =
+    let w = join (join c.put-a.ensures (join c.put_hex-b.ensures c.put_hex-c.ensures)) c.put_rights-d.ensures in
+    omega (arith, simp (length-append, digits-length) at (part-ends w), c.if-out-at-2.false, c.if-out-at.false)
 
 pub put_digits-requires : goal.put_digits-requires
-put-digits-requires c κs =
-    let n = c.before.before.before in
-    let o = n.before.before.before.before in
-    let e = o.before.before.before.before in
-    let s = e.before.before.before.before in
-    let l = s.before.before.before.before in
-    let w = join (join l.put.ensures (join s.put-hex.ensures e.put-hex2.ensures)) (join o.put-rights.ensures n.put-rights2.ensures) in
-    omega (arith, simp (length-append, digits-length) at (part-ends w), l.before.before.before.if2.false, l.before.before.before.before.if1.false)
+put_digits-requires c =
+    let w = join (join c.put-a.ensures (join c.put_hex-b.ensures c.put_hex-c.ensures)) (join c.put_rights-d.ensures c.put_rights-e.ensures) in
+    omega (arith, simp (length-append, digits-length) at (part-ends w), c.if-out-at-2.false, c.if-out-at.false)
 
 pub returns : goal.returns
 unfolding decimal_text diff_line

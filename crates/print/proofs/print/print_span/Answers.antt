@@ -20,18 +20,13 @@ returns-then-out-at c =
     (omega (arith, span-length a.start a.end a.rights))
 
 pub put_hex-c-requires : goal.put_hex-c-requires
-put-hex-requires-2 c κs =
-    let d = c.before.before.before in
-    let a = d.before.before.before.before in
-    omega (arith, simp (length-append, digits-length) at (part-ends (join a.put.ensures d.put-hex.ensures)))
+put_hex-c-requires c =
+    omega (arith, simp (length-append, digits-length) at (part-ends (join c.put-a.ensures c.put_hex-b.ensures)))
 
 pub put_rights-requires : goal.put_rights-requires
-put-rights-requires c κs =
-    let e = c.before.before.before in
-    let d = e.before.before.before.before in
-    let a = d.before.before.before.before in
-    let w = join (join a.put.ensures d.put-hex.ensures) e.put-hex2.ensures in
-    omega (arith, simp (length-append, digits-length) at (part-ends w), a.before.before.before.if2.false, a.before.before.before.before.if1.false)
+put_rights-requires c =
+    let w = join (join c.put-a.ensures c.put_hex-b.ensures) c.put_hex-c.ensures in
+    omega (arith, simp (length-append, digits-length) at (part-ends w), c.if-out-at.false, c.if-out-lt-SPAN_LENGTH.false)
 
 pub returns : goal.returns
 unfolding span_line

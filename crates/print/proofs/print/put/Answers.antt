@@ -28,9 +28,3 @@ pub returns : goal.returns
 returns c =
     let l = c.loop-i in
     copied _ _ _ _ l.i l.invariant.0 c.loop-i-test.false c.requires l.invariant.2
-
-pub put_spec : {M : Type 1} → statement M
-put_spec =
-    tie.close
-    (tie.spec invariant-loop-i decreases-loop-i loop-i-init (λ c. search rules) (λ c. search rules) (λ c. search rules)
-    (λ c. search rules) (λ c. search rules) loop-i-preserved (λ c. search rules) (λ c. search rules) returns)

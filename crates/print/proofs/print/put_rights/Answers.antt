@@ -7,7 +7,7 @@ use Rattle.print.proofs.Writing.{join, part-ends}
 use Rattle.print.proofs.print.put_rights.Goals as goal
 
 pub put_hex-requires : goal.put_hex-requires
-put-hex-requires c κs = omega (arith, part-ends c.before.before.before.put.ensures)
+put_hex-requires c = omega (arith, part-ends c.put-a.ensures)
 
 pub returns : goal.returns
 returns c =

@@ -15,8 +15,3 @@ loop-m-preserved c = (omega (arith, width-more c.loop-m.m c.loop-m-test.true), c
 
 pub returns : goal.returns
 returns c = omega (arith, width_one c.loop-m.m c.loop-m-test.false)
-
-pub width_spec : {M : Type 1} → statement M
-width_spec =
-    tie.close
-    (tie.spec invariant-loop-m decreases-loop-m loop-m-init (λ c. search rules) (λ c. search rules) loop-m-preserved returns)

@@ -16,8 +16,3 @@ returns c =
     let a = c.args in
     rights-join a.a (byte_at false false a.secure) (byte_at false true a.secure) 16 16
     (omega arith) c.pair.ensures c.pair-2.ensures
-
-pub half_spec : {M : Type 1} → statement M
-half_spec =
-    tie.close
-    (tie.spec (λ c κs. search rules) overflow_mul-result (λ c κs. search rules) overflow_add-result returns)

@@ -16,8 +16,3 @@ returns c =
     let a = c.args in
     rights-join a.a (byte_at false a.privileged a.secure) (byte_at true a.privileged a.secure) 8 8
     (omega arith) c.byte.ensures c.byte-2.ensures
-
-pub pair_spec : {M : Type 1} → statement M
-pair_spec =
-    tie.close
-    (tie.spec (λ c κs. search rules) overflow_mul-result (λ c κs. search rules) overflow_add-result returns)

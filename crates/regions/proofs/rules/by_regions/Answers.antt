@@ -18,13 +18,13 @@ whole : (w : List ℕ) → take (length w - 0) w ≡ w
 whole w = take_all (length w - 0) w (omega arith)
 
 pub gathered-m-requires : goal.gathered-m-requires
-gathered-requires c κs = let s = c.before.before.before in rw (whole s.args.w.now) (s.requires.0, s.requires.1, s.requires.2)
+gathered-m-requires c = rw (whole c.args.w.now) (c.requires.0, c.requires.1, c.requires.2)
 
 pub by_asked-requires : goal.by_asked-requires
-by-asked-requires c κs = omega (arith, c.before.before.before.before.requires.4)
+by_asked-requires c = omega (arith, c.requires.4)
 
 pub judged-v-requires : goal.judged-v-requires
-judged-requires c κs = c.before.before.before.before.before.requires.3
+judged-v-requires c = c.requires.3
 
 pub overflow_mul-result : goal.overflow_mul-result
 overflow_mul-result c =

@@ -25,16 +25,14 @@ returns-then-k c =
     simp (le-leb _ _ c.if-n-gt-MOST_REGIONS.false, le-leb _ _ c.if-w-n.false, lt-leb _ _ c.if-k.true)
 
 pub governed-v-requires : goal.governed-v-requires
-governed-requires c κs =
-    let b = c.before.before.before.before in
-    let a = b.before.before.before.args in
-    (b.before.if1.false, b.if2.false, rw c.hears.ensures (heard-cid a.bus a.k c.before.if3.false))
+governed-v-requires c =
+    let a = c.args in
+    (c.if-n-gt-MOST_REGIONS.false, c.if-w-n.false, rw c.hears-heard.ensures (heard-cid a.bus a.k c.if-k.false))
 
 pub default_reason-reason-requires : goal.default_reason-reason-requires
-default-reason-requires c κs =
-    let e = c.before.before in
-    let a = e.before.before.before.before.before.before.before.args in
-    rw e.hears.ensures (heard-cid a.bus a.k e.before.if3.false)
+default_reason-reason-requires c =
+    let a = c.args in
+    rw c.hears-heard.ensures (heard-cid a.bus a.k c.if-k.false)
 
 pub returns-then-v-eq0 : goal.returns-then-v-eq0
 returns-then-v-eq0 c =

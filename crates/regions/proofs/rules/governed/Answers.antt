@@ -21,9 +21,9 @@ returns-then-first-n c =
     (none-covered a.w.now a.o a.n (λ y u v. x.ensures.passed y u (omega (arith, c.if-first-n.true, v))))
 
 pub by_regions-requires : goal.by_regions-requires
-by-regions-requires c κs =
-    let p = c.before.before.before.before.before.before.requires in
-    let x = c.before.before.before.next-covering.ensures in
+by_regions-requires c =
+    let p = c.requires in
+    let x = c.next_covering-first.ensures in
     (x.high, p.1, x.passed, p.2, omega arith)
 
 pub returns-then-k : goal.returns-then-k
@@ -34,9 +34,9 @@ returns-then-k c =
     c.if-first-n.false
 
 pub by_regions-requires-2 : goal.by_regions-requires-2
-by-regions-requires-2 c κs =
-    let p = c.before.before.before.before.before.before.requires in
-    let x = c.before.before.before.next-covering.ensures in
+by_regions-requires-2 c =
+    let p = c.requires in
+    let x = c.next_covering-first.ensures in
     (x.high, p.1, x.passed, p.2, omega arith)
 
 pub returns : goal.returns

@@ -10,12 +10,11 @@ returns-then-number-ne0 c =
     c.if-number-ne0.true c.put_answer.ensures
 
 pub put_sheet-requires : goal.put_sheet-requires
-put-sheet-requires c κs =
-    let a = c.before.before.before.before.before.before.before.before.before.before.before.before in
-    let f = c.before.before.before.before.before.before.before.fill in (
-      a.requires.0,
-      made-few a.args.state.now a.args.lent.now a.args.guard.0 a.requires.1 f.ensures.0 c.before.before.before.before.number.ensures
-          c.before.before.before.if1.false f.ensures.1.1 f.ensures.1.0 c.before.used-part.ensures,
+put_sheet-requires c =
+    let f = c.fill in (
+      c.requires.0,
+      made-few c.args.state.now c.args.lent.now c.args.guard.0 c.requires.1 f.ensures.0 c.number.ensures
+          c.if1.false f.ensures.1.1 f.ensures.1.0 c.used_part-map.ensures,
     )
 
 pub returns : goal.returns

@@ -14,11 +14,11 @@ pub loop-k-init : goal.loop-k-init
 loop-k-init c = (no_rows c.args.out.now c.args.map.now c.args.at (omega (arith, c.requires.0)), refl, omega arith)
 
 pub put_row-p-requires : goal.put_row-p-requires
-put-row-requires c κs =
-    let l = c.before.before.loop in
-    let a = c.before.before.before.before.before in (
-      omega (arith, l.invariant.0.next, l.invariant.1, rows-length l.k a.args.map.now, a.requires.0, c.before.loop-test.true),
-      omega (arith, a.requires.1, c.before.loop-test.true),
+put_row-p-requires c =
+    let l = c.loop-k in
+    (
+      omega (arith, l.invariant.0.next, l.invariant.1, rows-length l.k c.args.map.now, c.requires.0, c.loop-k-test.true),
+      omega (arith, c.requires.1, c.loop-k-test.true),
     )
 
 pub loop-k-preserved : goal.loop-k-preserved

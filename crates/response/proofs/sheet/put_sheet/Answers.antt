@@ -9,11 +9,10 @@ use Rattle.response.proofs.Written.{rows-length}
 use Rattle.response.proofs.sheet.put_sheet.Goals as goal
 
 pub put_rows-b-requires : goal.put_rows-b-requires
-put-rows-requires c κs =
-    let a = c.before.before.before.before.before.before.before in
-    let p = c.before.before.before.print-guard in
-    let g = guard-line a.args.guard.0 (omega arith) (omega (arith, a.requires.0)) p.ensures.0 p.ensures.1 in
-    (omega (arith, g.next, guard-most a.args.guard.0 (omega arith), p.auto.0, a.requires.0, a.requires.1), omega arith)
+put_rows-b-requires c =
+    let p = c.print_guard-a in
+    let g = guard-line c.args.guard.0 (omega arith) (omega (arith, c.requires.0)) p.ensures.next p.ensures.bytes in
+    (omega (arith, g.next, guard-most c.args.guard.0 (omega arith), p.auto.0, c.requires.0, c.requires.1), omega arith)
 
 pub returns : goal.returns
 returns c =

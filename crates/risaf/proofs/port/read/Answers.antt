@@ -21,14 +21,14 @@ returns-then-q-ne0 c =
     simp (not-false a.shape.there c.if-not-shape.false, ne_eqb (a.q.offset % 4) 0 c.if-q-ne0.true)
 
 pub row-requires-in-OfBase : goal.row-requires-in-OfBase
-row-requires-2 c κs =
-    let p : Placed c.before.before.before.register-at.result = rw c.before.before.before.register-at.ensures (register-placed _ _) in
-    rw c.before.reg2.given.1 at p
+row-requires-in-OfBase c =
+    let p : Placed c.register_at-reg.result = rw c.register_at-reg.ensures (register-placed _ _) in
+    rw c.in-OfBase.is at p
 
 pub row-requires-in-OfSub : goal.row-requires-in-OfSub
-row-requires-3 c κs =
-    let p : Placed c.before.before.before.register-at.result = rw c.before.before.before.register-at.ensures (register-placed _ _) in
-    rw c.before.reg3.given.1 at p
+row-requires-in-OfSub c =
+    let p : Placed c.register_at-reg.result = rw c.register_at-reg.ensures (register-placed _ _) in
+    rw c.in-OfSub.is at p
 
 pub returns-in-OfHead : goal.returns-in-OfHead
 unfolding row_of
@@ -53,10 +53,3 @@ unfolding row_of read_reached
 returns-in-Unknown c =
     let a = c.args in
     reading a.shape a.w.now a.q (not-false a.shape.there c.if-not-shape.false) c.if-q-ne0.false c.register_at-reg.ensures (ap row_of (sym c.in-Unknown.is)) refl
-
-pub read_spec : {M : Type 1} → statement M
-read_spec =
-    tie.close
-    (tie.spec returns-then-not-shape returns-then-q-ne0 (λ c κs. search rules) (λ c. search rules) (λ c κs. search rules)
-    (λ c κs. search rules) (λ c. search rules) row-requires-in-OfBase (λ c κs. search rules) (λ c. search rules)
-    row-requires-in-OfSub (λ c κs. search rules) (λ c. search rules) returns-in-OfHead returns-in-OfBase returns-in-OfSub returns-in-Unknown)

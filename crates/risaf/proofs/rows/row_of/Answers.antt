@@ -3,10 +3,10 @@ use Rattle.risaf.specs.Rows.{row_of}
 use Rattle.risaf.proofs.rows.row_of.Goals as goal
 
 pub row-requires-in-OfBase : goal.row-requires-in-OfBase
-row-requires-2 c κs = rw c.before.reg2.given.1 at c.before.before.before.requires
+row-requires-in-OfBase c = rw c.in-OfBase.is at c.requires
 
 pub row-requires-in-OfSub : goal.row-requires-in-OfSub
-row-requires-3 c κs = rw c.before.reg3.given.1 at c.before.before.before.requires
+row-requires-in-OfSub c = rw c.in-OfSub.is at c.requires
 
 pub returns-in-OfHead : goal.returns-in-OfHead
 unfolding row_of

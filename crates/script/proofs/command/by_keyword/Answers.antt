@@ -14,7 +14,7 @@ use Rattle.script.proofs.command.by_keyword.Goals as goal
 
 pub memory-requires : goal.memory-requires
 unfolding every
-memory-requires c κs = line-next _ (bytes "mem") refl (told c.before.begins.ensures c.if1.true)
+memory-requires c = line-next _ (bytes "mem") refl (told c.begins.ensures c.if-begins.true)
 
 pub returns-then-begins : goal.returns-then-begins
 unfolding by_keyword lines_of same every
@@ -22,7 +22,7 @@ returns-then-begins c = c.memory.ensures ∙ sym (line-by _ (bytes "mem") refl (
 
 pub register-requires : goal.register-requires
 unfolding every
-register-requires c κs = line-next _ (bytes "reg") refl (told c.before.begins2.ensures c.if2.true)
+register-requires c = line-next _ (bytes "reg") refl (told c.begins-2.ensures c.if-begins-2.true)
 
 pub returns-then-begins-2 : goal.returns-then-begins-2
 unfolding by_keyword lines_of same every
@@ -30,7 +30,7 @@ returns-then-begins-2 c = c.register.ensures ∙ sym (line-by _ (bytes "reg") re
 
 pub peripheral-requires : goal.peripheral-requires
 unfolding every
-peripheral-requires c κs = line-next _ (bytes "per") refl (told c.before.begins3.ensures c.if3.true)
+peripheral-requires c = line-next _ (bytes "per") refl (told c.begins-3.ensures c.if-begins-3.true)
 
 pub returns-then-begins-3 : goal.returns-then-begins-3
 unfolding by_keyword lines_of same every
@@ -38,7 +38,7 @@ returns-then-begins-3 c = c.peripheral.ensures ∙ sym (line-by _ (bytes "per") 
 
 pub master-requires : goal.master-requires
 unfolding every
-master-requires c κs = line-next _ (bytes "dma") refl (told c.before.begins4.ensures c.if4.true)
+master-requires c = line-next _ (bytes "dma") refl (told c.begins-4.ensures c.if-begins-4.true)
 
 pub returns-then-begins-4 : goal.returns-then-begins-4
 unfolding by_keyword lines_of same every
@@ -46,7 +46,7 @@ returns-then-begins-4 c = c.master.ensures ∙ sym (line-by _ (bytes "dma") refl
 
 pub map-requires : goal.map-requires
 unfolding every
-map-requires c κs = line-next _ (bytes "map") refl (told c.before.begins5.ensures c.if5.true)
+map-requires c = line-next _ (bytes "map") refl (told c.begins-5.ensures c.if-begins-5.true)
 
 pub returns-then-begins-5 : goal.returns-then-begins-5
 unfolding by_keyword lines_of same every

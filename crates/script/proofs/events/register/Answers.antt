@@ -11,7 +11,7 @@ returns-in_default c =
     sym (c.block_at.ensures.0 ∙ ap (λ (b : BlockField). block_line b l) c.in_default.is)
 
 pub request-requires : goal.request-requires
-request-requires c κs = rw c.before.block.given.1 at c.before.before.before.block_at.ensures.1
+request-requires c = rw c.in-Is.is at c.block_at.ensures.1
 
 pub returns : goal.returns
 returns c =

@@ -13,9 +13,9 @@ returns-then-not-ends c =
     not_there hex-fixed _ _ (told c.ends.ensures (not-true c.ends.result c.if-not-ends.true))
 
 pub hex-requires : goal.hex-requires
-hex-requires c κs =
-    let a = c.before.before.before.args in
-    ends-within a.line.now (a.from + 8) (told c.before.ends.ensures (not-false c.before.ends.result c.if1.false))
+hex-requires c =
+    let a = c.args in
+    ends-within a.line.now (a.from + 8) (told c.ends.ensures (not-false c.ends.result c.if-not-ends.false))
 
 pub returns : goal.returns
 returns c =

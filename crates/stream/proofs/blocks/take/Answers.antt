@@ -26,10 +26,3 @@ returns c =
     let a = c.args in
     let k = kept_of a.held a.line.now a.state.now in
     calls k a.block.now a.out.now a.at c.if-line-ne-LINE_ROOM.false c.if-held-gt-LINE_ROOM.false c.take_begun.ensures
-
-pub take_spec : {M : Type 1} → statement M
-take_spec =
-    tie.close
-    (tie.spec (λ c κs. search rules) returns-then-line-ne-LINE_ROOM (λ c κs. search rules) returns-then-held-gt-LINE_ROOM (λ c κs. search rules)
-    (λ c. search rules) (λ c. search rules) (λ c. search rules) returns-then-held-eq0 (λ c κs. search rules) (λ c. search rules)
-    (λ c. search rules) (λ c. search rules) returns)

@@ -62,14 +62,10 @@ overflow_add-end-2 c =
     search (rules, within)
 
 pub take_lines-requires : goal.take_lines-requires
-take-lines-requires c κs =
-    let kept = c.before.before.before.before.before.before.before.before.before.before.before.before.before.before.before in
-    let room = kept.before.before.before.before in
-    let found = room.before.before.before in
-    let start = found.before.before.before.before.before in
-    let a = start.args in
+take_lines-requires c =
+    let a = c.args in
     let k = kept_of a.held a.line.now a.state.now in
-    (omega (arith, more k a.block.now a.out.now a.at found.line-end.result start.requires.0 start.requires.1 found.line-end.ensures room.before.before.if1.false), kept.keep2.auto.0 ∙ start.requires.1)
+    (omega (arith, more k a.block.now a.out.now a.at c.line-end.result c.requires.0 c.requires.1 c.line-end.ensures c.if1.false), c.keep2.auto.0 ∙ c.requires.1)
 
 pub returns : goal.returns
 returns c =

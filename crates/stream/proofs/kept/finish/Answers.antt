@@ -13,8 +13,3 @@ returns c =
     let a = c.args in
     let p = c.print_bad in
     end-bad a.out.now a.at a.held.bytes a.held.number c.if-held-eq0.false p.ensures.next p.ensures.bytes
-
-pub finish_spec : {M : Type 1} → statement M
-finish_spec =
-    tie.close
-    (tie.spec returns-then-held-eq0 (λ c κs. search rules) (λ c. search rules) returns)

@@ -39,9 +39,3 @@ returns c =
     let k = kept-all a.line.now a.bytes.now a.n c.fewer-count.result c.fewer-count.ensures in
     let e : c.loop-i.i ≡ c.fewer-count.result = omega (arith, c.loop-i.invariant.0, c.loop-i-test.false) in
     record { value = k.0; line_after = c.loop-i.invariant.2 ∙ rw e k.1 }
-
-pub keep_spec : {M : Type 1} → statement M
-keep_spec =
-    tie.close
-    (tie.spec invariant-loop-i decreases-loop-i (λ c. search rules) (λ c κs. search rules) loop-i-init bounds-bytes-i overflow_add-line
-    bounds-line-n (λ c. search rules) (λ c. search rules) loop-i-preserved overflow_add-result (λ c. search rules) returns)

@@ -34,9 +34,3 @@ unfolding read_answer read_of
 returns c =
     let a = c.args in
     simp (eq-eqb (a.q.offset % 4) 0 c.if-q-ne0.false, not-false a.self.known c.if-not-self.false, sym c.admits.ensures ∙ not-false c.admits.result c.if-not-admits.false, not-false a.self.readable c.if-not-self-2.false, c.united.ensures, c.masked.ensures)
-
-pub read_spec : {M : Type 1} → statement M
-read_spec =
-    tie.close
-    (tie.spec returns-then-q-ne0 returns-then-not-self (λ c κs. search rules) returns-then-not-admits returns-then-not-self-2 (λ c κs. search rules)
-    (λ c κs. search rules) returns)

@@ -21,8 +21,3 @@ unfolding read_answer read_of
 returns c =
     let a = c.args in
     simp (eq-eqb (a.offset % 4) 0 c.if-offset-ne0.false, not-false a.self.known c.if-not-self.false, c.united.ensures, c.masked.ensures)
-
-pub read_spec : {M : Type 1} → statement M
-read_spec =
-    tie.close
-    (tie.spec returns-then-offset-ne0 returns-then-not-self (λ c κs. search rules) (λ c κs. search rules) returns)

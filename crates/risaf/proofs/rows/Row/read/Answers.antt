@@ -30,8 +30,3 @@ returns c =
     let s = c.args.self in
     let q = c.args.q in
     simp (not-false s.known c.if-not-self.false, not-false (not s.guarded || q.secure && q.privileged) c.if-not-self-q.false, not-false s.readable c.if-not-self-2.false, c.masked.ensures, c.word_in.ensures)
-
-pub read_spec : {M : Type 1} → statement M
-read_spec =
-    tie.close
-    (tie.spec returns-then-not-self returns-then-not-self-q returns-then-not-self-2 (λ c κs. search rules) (λ c κs. search rules) returns)
