@@ -4,4 +4,6 @@ use Rattle.capi.proofs.events.rif_master.Goals as goal
 
 pub returns : goal.returns
 unfolding master_event
-returns c = c.master_encoded.ensures
+returns c =
+    let all = c.master_encoded.ensures in
+    record { answer = all.0; next = all.1 }

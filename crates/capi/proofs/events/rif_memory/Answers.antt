@@ -4,4 +4,6 @@ use Rattle.capi.proofs.events.rif_memory.Goals as goal
 
 pub returns : goal.returns
 unfolding memory_event
-returns c = c.memory_encoded.ensures
+returns c =
+    let all = c.memory_encoded.ensures in
+    record { answer = all.0; next = all.1 }

@@ -8,10 +8,10 @@ use Rattle.capi.proofs.events.rif_peripheral.Goals as goal
 pub returns-in_default : goal.returns-in_default
 unfolding peripheral_asked asked_state
 returns-in_default c =
-    rw (sym c.operation-numbered.ensures ∙ c.enum_told.given.1) (c.nothing.ensures, refl)
+    rw (sym c.operation-numbered.ensures ∙ c.enum_told.given.1) (record { answer = c.nothing.ensures; next = refl })
 
 pub returns : goal.returns
 unfolding peripheral_asked asked_answer asked_state
 returns c =
     let u = c.apply_peripheral in
-    rw (sym c.operation_numbered.ensures ∙ c.in-Does.is) (c.encoded.ensures ∙ ap encoded_of u.ensures.answer, u.ensures.next)
+    rw (sym c.operation_numbered.ensures ∙ c.in-Does.is) (record { answer = c.encoded.ensures ∙ ap encoded_of u.ensures.answer; next = u.ensures.next })

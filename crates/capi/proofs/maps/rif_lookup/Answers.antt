@@ -14,10 +14,12 @@ returns-then-row-eq-ROW_NUMBERS c =
     let three = c.if-row-eq-ROW_NUMBERS.true in
     let read : (i d : ℕ) → i < row_numbers → get_or row.result.now i 0 ≡ get_or row.result.now i d =
     λ i d h. read_number row.result.now i 0 d (rw three h) in
-    rw (← row.ensures) (refl, (read 0 _ (omega arith), (read 1 _ (omega arith), read 2 _ (omega arith))))
+    let all = rw (← row.ensures) (refl, (read 0 _ (omega arith), (read 1 _ (omega arith), read 2 _ (omega arith)))) in
+    record { count = all.0; start = all.1; end = all.2; rights = all.3 }
 
 pub returns-else-row-eq-ROW_NUMBERS : goal.returns-else-row-eq-ROW_NUMBERS
 returns-else-row-eq-ROW_NUMBERS c =
     let found = c.lookup-row.ensures in
     let none = none_found _ _ (λ e. c.if-row-eq-ROW_NUMBERS.false (ap length found ∙ e)) in
-    rw (found, none) (refl, (refl, (refl, refl)))
+    let all = rw (found, none) (refl, (refl, (refl, refl))) in
+    record { count = all.0; start = all.1; end = all.2; rights = all.3 }

@@ -6,10 +6,13 @@ use Rattle.device.proofs.Applies.{other_length, own-length}
 use Rattle.device.proofs.applied.apply_reset.Goals as goal
 
 pub returns-then-state-ne-STATE_WORDS : goal.returns-then-state-ne-STATE_WORDS
-returns-then-state-ne-STATE_WORDS c = other_length Reset c.args.state.now c.if-state-ne-STATE_WORDS.true
+returns-then-state-ne-STATE_WORDS c =
+    let all = other_length Reset c.args.state.now c.if-state-ne-STATE_WORDS.true in
+    record { answer = all.0; next = all.1 }
 
 pub returns : goal.returns
 unfolding step
 returns c =
     let u = c.reset in
-    own-length Reset c.args.state.now c.if-state-ne-STATE_WORDS.false u.auto.0 refl u.ensures
+    let all = own-length Reset c.args.state.now c.if-state-ne-STATE_WORDS.false u.auto.0 refl u.ensures in
+    record { answer = all.0; next = all.1 }

@@ -9,7 +9,7 @@ use Rattle.device.proofs.encoded.memory_encoded.Goals as goal
 pub returns-in_default : goal.returns-in_default
 returns-in_default c =
     let u = c.apply_memory-answer in
-    (c.encoded.ensures ∙ ap encoded_of u.ensures.answer, u.ensures.next)
+    record { answer = c.encoded.ensures ∙ ap encoded_of u.ensures.answer; next = u.ensures.next }
 
 -- Done is number 0: its value is the whole of it
 whole : (value : ℕ) → value ≡ encoded_of (Done value)

@@ -15,8 +15,9 @@ pub returns-in_default : goal.returns-in_default
 returns-in_default c =
     let m = c.memory_checked-checked in
     let a = c.args in
-    memory-rejected (state_of a.state.now) a.there a.guard.0 a.o a.width a.k c.shape-shape.ensures m.ensures
-    c.in_default.in_default-own.keys2
+    let all = memory-rejected (state_of a.state.now) a.there a.guard.0 a.o a.width a.k c.shape-shape.ensures m.ensures
+    c.in_default.in_default-own.keys2 in
+    record { answer = all.0; next = all.1 }
 
 pub returns-then-verdict-eq-NO_REASON : goal.returns-then-verdict-eq-NO_REASON
 returns-then-verdict-eq-NO_REASON c =
@@ -24,8 +25,9 @@ returns-then-verdict-eq-NO_REASON c =
     let es = c.shape.ensures in
     let l : c.shape.result.place < guard_count = rw es (place-lt _) in
     let ew = c.region_words.ensures ∙ regions-read a.state.now _ c.requires l in
-    memory-granted (state_of a.state.now) a.there a.guard.0 a.o a.width a.k es c.memory-checked.ensures
-    c.enum_told.given.1 ew (ap length ew ∙ regions-length a.state.now _ c.requires l) c.decide-verdict.ensures c.if-verdict-eq-NO_REASON.true
+    let all = memory-granted (state_of a.state.now) a.there a.guard.0 a.o a.width a.k es c.memory-checked.ensures
+    c.enum_told.given.1 ew (ap length ew ∙ regions-length a.state.now _ c.requires l) c.decide-verdict.ensures c.if-verdict-eq-NO_REASON.true in
+    record { answer = all.0; next = all.1 }
 
 pub load_faults-requires : goal.load_faults-requires
 load_faults-requires c =
@@ -46,7 +48,8 @@ returns c =
     let es = c.shape.ensures in
     let l : c.shape.result.place < guard_count = rw es (place-lt _) in
     let ew = c.region_words.ensures ∙ regions-read a.state.now _ c.requires l in
-    memory-refused (state_of a.state.now) a.there a.guard.0 a.o a.width a.k es c.memory-checked.ensures
+    let all = memory-refused (state_of a.state.now) a.there a.guard.0 a.o a.width a.k es c.memory-checked.ensures
     c.enum_told.given.1 ew (ap length ew ∙ regions-length a.state.now _ c.requires l) c.decide-verdict.ensures c.if-verdict-eq-NO_REASON.false
     (c.raise.ensures
-    ∙ ap (flagged _) (c.store_faults.ensures ∙ rw (c.recorded-faults.ensures, c.hears-heard.ensures, c.load_faults.ensures)))
+    ∙ ap (flagged _) (c.store_faults.ensures ∙ rw (c.recorded-faults.ensures, c.hears-heard.ensures, c.load_faults.ensures))) in
+    record { answer = all.0; next = all.1 }

@@ -9,14 +9,16 @@ pub returns-then-not-exists : goal.returns-then-not-exists
 returns-then-not-exists c =
     let a = c.args in
     let x = c.exists in
-    no-peripheral a.a (state_of a.state.now) (sym x.ensures ∙ not-true x.result c.if-not-exists.true)
+    let all = no-peripheral a.a (state_of a.state.now) (sym x.ensures ∙ c.if-not-exists.true) in
+    record { answer = all.0; next = all.1 }
 
 pub returns-then-is_fetch : goal.returns-then-is_fetch
 returns-then-is_fetch c =
     let f = c.is_fetch in
     let x = c.exists in
     let a = c.args in
-    peripheral-fetched a.a (state_of a.state.now) (sym x.ensures ∙ not-false x.result c.if-not-exists.false) (sym f.ensures ∙ c.if-is_fetch.true)
+    let all = peripheral-fetched a.a (state_of a.state.now) (sym x.ensures ∙ c.if-not-exists.false) (sym f.ensures ∙ c.if-is_fetch.true) in
+    record { answer = all.0; next = all.1 }
 
 pub returns-then-grants : goal.returns-then-grants
 returns-then-grants c =
@@ -25,8 +27,9 @@ returns-then-grants c =
     let f = c.is-fetch in
     let x = c.exists in
     let a = c.args in
-    peripheral-granted a.a (state_of a.state.now) (sym x.ensures ∙ not-false x.result c.if1.false) (sym f.ensures ∙ c.if2.false)
-    (rw (← l.ensures) (sym g.ensures ∙ c.if-grants.true))
+    let all = peripheral-granted a.a (state_of a.state.now) (sym x.ensures ∙ c.if1.false) (sym f.ensures ∙ c.if2.false)
+    (rw (← l.ensures) (sym g.ensures ∙ c.if-grants.true)) in
+    record { answer = all.0; next = all.1 }
 
 pub returns : goal.returns
 returns c =
@@ -35,5 +38,6 @@ returns c =
     let f = c.is-fetch in
     let x = c.exists in
     let a = c.args in
-    peripheral-refused a.a (state_of a.state.now) (sym x.ensures ∙ not-false x.result c.if1.false) (sym f.ensures ∙ c.if2.false)
-    (rw (← l.ensures) (sym g.ensures ∙ c.if-grants.false)) c.raise.ensures
+    let all = peripheral-refused a.a (state_of a.state.now) (sym x.ensures ∙ c.if1.false) (sym f.ensures ∙ c.if2.false)
+    (rw (← l.ensures) (sym g.ensures ∙ c.if-grants.false)) c.raise.ensures in
+    record { answer = all.0; next = all.1 }

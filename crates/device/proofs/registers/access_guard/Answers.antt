@@ -16,25 +16,28 @@ read_guard-requires c =
 
 pub returns-then-not-q : goal.returns-then-not-q
 returns-then-not-q c =
-    (c.read_guard.ensures.answer, c.read_guard.ensures.next)
+    record { answer = c.read_guard.ensures.answer; next = c.read_guard.ensures.next }
 
 pub returns-then-not-shape : goal.returns-then-not-shape
 returns-then-not-shape c =
     let a = c.args in
     let t = state_of a.state.now in
-    register-no-guard t a.guard a.q c.shape-shape.ensures refl (not-true c.shape-shape.result.there c.if-not-shape.true)
+    let all = register-no-guard t a.guard a.q c.shape-shape.ensures refl (not-true c.shape-shape.result.there c.if-not-shape.true) in
+    record { answer = all.0; next = all.1 }
 
 pub returns-then-q-ne0 : goal.returns-then-q-ne0
 returns-then-q-ne0 c =
     let a = c.args in
     let t = state_of a.state.now in
-    register-misaligned t a.guard a.q c.shape-shape.ensures refl (not-false c.shape-shape.result.there c.if-not-shape.false) c.if-q-ne0.true
+    let all = register-misaligned t a.guard a.q c.shape-shape.ensures refl (not-false c.shape-shape.result.there c.if-not-shape.false) c.if-q-ne0.true in
+    record { answer = all.0; next = all.1 }
 
 pub returns-then-not-row : goal.returns-then-not-row
 returns-then-not-row c =
     let a = c.args in
     let t = state_of a.state.now in
-    register-unknown t a.guard a.q c.shape-shape.ensures c.row_at-row.ensures (not-false c.shape-shape.result.there c.if-not-shape.false) c.if-q-ne0.false (not-true c.row_at-row.result.known c.if-not-row.true)
+    let all = register-unknown t a.guard a.q c.shape-shape.ensures c.row_at-row.ensures (not-false c.shape-shape.result.there c.if-not-shape.false) c.if-q-ne0.false (not-true c.row_at-row.result.known c.if-not-row.true) in
+    record { answer = all.0; next = all.1 }
 
 pub load_port-requires : goal.load_port-requires
 load_port-requires c =
@@ -63,7 +66,7 @@ returns-in-Done c =
     let er = c.row_at.ensures in
     let ep = c.load_port.ensures in
     let ea = c.access-accessed.ensures in
-    (register-answer t a.guard a.q es er ep ea, register-written t a.guard a.q es er ep ea c.in-Done.is (not-false a.q.write c.if1.false) c.Store-word.ensures)
+    record { answer = register-answer t a.guard a.q es er ep ea; next = register-written t a.guard a.q es er ep ea c.in-Done.is (not-false a.q.write c.if1.false) c.Store-word.ensures }
 
 pub returns-in-Refused : goal.returns-in-Refused
 returns-in-Refused c =
@@ -73,7 +76,7 @@ returns-in-Refused c =
     let er = c.row_at-row.ensures in
     let ep = c.load_port.ensures in
     let ea = c.access-accessed.ensures in
-    (register-answer t a.guard a.q es er ep ea, register-refused t a.guard a.q es er ep ea c.in-Refused.is (c.raise.ensures ∙ ap (flagged _) c.store_word-in-Refused.ensures))
+    record { answer = register-answer t a.guard a.q es er ep ea; next = register-refused t a.guard a.q es er ep ea c.in-Refused.is (c.raise.ensures ∙ ap (flagged _) c.store_word-in-Refused.ensures) }
 
 pub returns-in-Rejected : goal.returns-in-Rejected
 returns-in-Rejected c =
@@ -83,4 +86,4 @@ returns-in-Rejected c =
     let er = c.row_at.ensures in
     let ep = c.load_port.ensures in
     let ea = c.access-accessed.ensures in
-    (register-answer t a.guard a.q es er ep ea, register-rejected t a.guard a.q es er ep ea c.in-Rejected.is)
+    record { answer = register-answer t a.guard a.q es er ep ea; next = register-rejected t a.guard a.q es er ep ea c.in-Rejected.is }

@@ -10,7 +10,8 @@ use Rattle.device.proofs.registers.access_iac.Goals as goal
 pub returns-then-q-ne0 : goal.returns-then-q-ne0
 returns-then-q-ne0 c =
     let a = c.args in
-    flags-misaligned (state_of a.state.now) a.q c.if-q-ne0.true
+    let all = flags-misaligned (state_of a.state.now) a.q c.if-q-ne0.true in
+    record { answer = all.0; next = all.1 }
 
 pub read_iac-requires : goal.read_iac-requires
 read_iac-requires c =
@@ -18,7 +19,7 @@ read_iac-requires c =
 
 pub returns-then-not-q : goal.returns-then-not-q
 returns-then-not-q c =
-    (c.read_iac.ensures.answer, c.read_iac.ensures.next)
+    record { answer = c.read_iac.ensures.answer; next = c.read_iac.ensures.next }
 
 pub rewrite-requires : goal.rewrite-requires
 rewrite-requires c =
@@ -27,17 +28,20 @@ rewrite-requires c =
 pub returns-in-Done : goal.returns-in-Done
 returns-in-Done c =
     let a = c.args in
-    flags-written (state_of a.state.now) a.q c.register-at.ensures c.row.ensures c.load_word.ensures c.access-accessed.ensures
-    c.in-Done.is (not-false a.q.write c.if2.false) c.rewrite.ensures
+    let all = flags-written (state_of a.state.now) a.q c.register-at.ensures c.row.ensures c.load_word.ensures c.access-accessed.ensures
+    c.in-Done.is (not-false a.q.write c.if2.false) c.rewrite.ensures in
+    record { answer = all.0; next = all.1 }
 
 pub returns-in-Refused : goal.returns-in-Refused
 returns-in-Refused c =
     let a = c.args in
-    flags-refused (state_of a.state.now) a.q c.register-at.ensures c.row.ensures c.load_word.ensures c.access-accessed.ensures
-    c.in-Refused.is c.raise.ensures
+    let all = flags-refused (state_of a.state.now) a.q c.register-at.ensures c.row.ensures c.load_word.ensures c.access-accessed.ensures
+    c.in-Refused.is c.raise.ensures in
+    record { answer = all.0; next = all.1 }
 
 pub returns-in-Rejected : goal.returns-in-Rejected
 returns-in-Rejected c =
     let a = c.args in
-    flags-rejected (state_of a.state.now) a.q c.register-at.ensures c.row.ensures c.load_word.ensures c.access-accessed.ensures
-    c.in-Rejected.is
+    let all = flags-rejected (state_of a.state.now) a.q c.register-at.ensures c.row.ensures c.load_word.ensures c.access-accessed.ensures
+    c.in-Rejected.is in
+    record { answer = all.0; next = all.1 }

@@ -8,7 +8,8 @@ use Rattle.device.proofs.registers.access_rifsc.Goals as goal
 pub returns-then-q-ne0 : goal.returns-then-q-ne0
 returns-then-q-ne0 c =
     let a = c.args in
-    controller-misaligned (state_of a.state.now) a.q c.if-q-ne0.true
+    let all = controller-misaligned (state_of a.state.now) a.q c.if-q-ne0.true in
+    record { answer = all.0; next = all.1 }
 
 pub read_rifsc-requires : goal.read_rifsc-requires
 read_rifsc-requires c =
@@ -16,22 +17,25 @@ read_rifsc-requires c =
 
 pub returns-then-not-q : goal.returns-then-not-q
 returns-then-not-q c =
-    (c.read_rifsc.ensures.answer, c.read_rifsc.ensures.next)
+    record { answer = c.read_rifsc.ensures.answer; next = c.read_rifsc.ensures.next }
 
 pub returns-in-Done : goal.returns-in-Done
 returns-in-Done c =
     let a = c.args in
-    controller-written (state_of a.state.now) a.q c.register-at.ensures c.row.ensures c.load_seen.ensures c.access-accessed.ensures
-    c.in-Done.is (not-false a.q.write c.if2.false) c.store_register.ensures
+    let all = controller-written (state_of a.state.now) a.q c.register-at.ensures c.row.ensures c.load_seen.ensures c.access-accessed.ensures
+    c.in-Done.is (not-false a.q.write c.if2.false) c.store_register.ensures in
+    record { answer = all.0; next = all.1 }
 
 pub returns-in-Refused : goal.returns-in-Refused
 returns-in-Refused c =
     let a = c.args in
-    controller-refused (state_of a.state.now) a.q c.register-at.ensures c.row.ensures c.load_seen.ensures c.access-accessed.ensures
-    c.in-Refused.is c.raise.ensures
+    let all = controller-refused (state_of a.state.now) a.q c.register-at.ensures c.row.ensures c.load_seen.ensures c.access-accessed.ensures
+    c.in-Refused.is c.raise.ensures in
+    record { answer = all.0; next = all.1 }
 
 pub returns-in-Rejected : goal.returns-in-Rejected
 returns-in-Rejected c =
     let a = c.args in
-    controller-rejected (state_of a.state.now) a.q c.register-at.ensures c.row.ensures c.load_seen.ensures c.access-accessed.ensures
-    c.in-Rejected.is
+    let all = controller-rejected (state_of a.state.now) a.q c.register-at.ensures c.row.ensures c.load_seen.ensures c.access-accessed.ensures
+    c.in-Rejected.is in
+    record { answer = all.0; next = all.1 }

@@ -27,9 +27,11 @@ pub returns-in-Refused : goal.returns-in-Refused
 returns-in-Refused c =
     let t = state_of c.args.state.now in
     let e = c.with_bit.ensures ∙ ap (λ (f : Faults). with_bit 32 f.iasr 0 true) c.load_faults-faults.ensures in
-    register-read-refused t c.args.guard c.args.q c.requires.1 c.shape.ensures c.read_register-answer.ensures c.in-Refused.is e (c.raise.ensures ∙ ap (flagged _) c.Store-word.ensures)
+    let all = register-read-refused t c.args.guard c.args.q c.requires.1 c.shape.ensures c.read_register-answer.ensures c.in-Refused.is e (c.raise.ensures ∙ ap (flagged _) c.Store-word.ensures) in
+    record { answer = all.0; next = all.1 }
 
 pub returns-in_default : goal.returns-in_default
 returns-in_default c =
     let t = state_of c.args.state.now in
-    register-read-kept t c.args.guard c.args.q c.requires.1 c.shape.ensures c.read_register-answer.ensures c.in_default.in_default-own.keys2
+    let all = register-read-kept t c.args.guard c.args.q c.requires.1 c.shape.ensures c.read_register-answer.ensures c.in_default.in_default-own.keys2 in
+    record { answer = all.0; next = all.1 }

@@ -7,15 +7,17 @@ use Rattle.diff.proofs.fill.fill.Goals as goal
 pub returns-then-not-long-map_sized : goal.returns-then-not-long-map_sized
 returns-then-not-long-map_sized c =
     let a = c.args in
-    wrong-length a.guard.0 a.before.now a.after.now a.numbers.now
-    c.map_sized.ensures c.map_sized-2.ensures c.if-not-long-map_sized.true
+    let all = wrong-length a.guard.0 a.before.now a.after.now a.numbers.now
+    c.map_sized.ensures c.map_sized-2.ensures c.if-not-long-map_sized.true in
+    record { answer_value = all.0; used_value = all.1; numbers_after = all.2 }
 
 pub returns-then-not-shape-tiles : goal.returns-then-not-shape-tiles
 returns-then-not-shape-tiles c =
     let a = c.args in
-    no-map a.guard.0 a.before.now a.after.now a.numbers.now
+    let all = no-map a.guard.0 a.before.now a.after.now a.numbers.now
     c.map_sized.ensures c.map_sized-2.ensures c.if-not-long-map_sized.false
-    c.shape-shape.ensures c.tiles.ensures c.tiles-2.ensures c.if-not-shape-tiles.true
+    c.shape-shape.ensures c.tiles.ensures c.tiles-2.ensures c.if-not-shape-tiles.true in
+    record { answer_value = all.0; used_value = all.1; numbers_after = all.2 }
 
 pub walk-count-requires : goal.walk-count-requires
 walk-count-requires c =
@@ -38,7 +40,8 @@ overflow_mul-used c =
 pub returns : goal.returns
 returns c =
     let a = c.args in
-    made a.guard.0 a.before.now a.after.now a.numbers.now
+    let all = made a.guard.0 a.before.now a.after.now a.numbers.now
     c.map_sized.ensures c.map_sized-2.ensures c.if-not-long-map_sized.false
     c.shape-shape.ensures c.tiles.ensures c.tiles-2.ensures c.if-not-shape-tiles.false
-    c.walk-count.ensures.value c.walk-count.ensures.lent_after
+    c.walk-count.ensures.value c.walk-count.ensures.lent_after in
+    record { answer_value = all.0; used_value = all.1; numbers_after = all.2 }

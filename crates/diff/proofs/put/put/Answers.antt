@@ -9,7 +9,8 @@ use Rattle.diff.proofs.put.put.Goals as goal
 pub returns-then-old-new : goal.returns-then-old-new
 returns-then-old-new c =
     let a = c.args in
-    put-none a.lent.now a.count a.start a.end a.old a.new c.if-old-new.true
+    let all = put-none a.lent.now a.count a.start a.end a.old a.new c.if-old-new.true in
+    record { value = all.0; lent_after = all.1 }
 
 pub overflow_sub-lent : goal.overflow_sub-lent
 overflow_sub-lent c =
@@ -23,7 +24,8 @@ bounds-lent-i c = search rules
 pub returns-then-continues : goal.returns-then-continues
 returns-then-continues c =
     let a = c.args in
-    put-grows a.lent.now a.count a.start a.end a.old a.new c.if1.false (sym c.continues.ensures ∙ c.if-continues.true)
+    let all = put-grows a.lent.now a.count a.start a.end a.old a.new c.if1.false (sym c.continues.ensures ∙ c.if-continues.true) in
+    record { value = all.0; lent_after = all.1 }
 
 pub bounds-lent-i-3 : goal.bounds-lent-i-3
 bounds-lent-i-3 c = simp length-set (omega arith)
@@ -40,5 +42,6 @@ bounds-lent-i-6 c = simp length-set (omega arith)
 pub returns : goal.returns
 returns c =
     let a = c.args in
-    rw c.differing.ensures
-    (put-adds a.lent.now a.count a.start a.end a.old a.new c.if1.false (sym c.continues.ensures ∙ c.if-continues.false))
+    let all = rw c.differing.ensures
+    (put-adds a.lent.now a.count a.start a.end a.old a.new c.if1.false (sym c.continues.ensures ∙ c.if-continues.false)) in
+    record { value = all.0; lent_after = all.1 }

@@ -98,4 +98,6 @@ pub shape_of-lent : goal.shape_of-lent
 shape_of-lent c = c.loop-at.invariant.long
 
 pub returns : goal.returns
-returns c = swept-end c.loop-at.invariant c.loop-at-test.false
+returns c =
+    let all = swept-end c.loop-at.invariant c.loop-at-test.false in
+    record { value = all.0; lent_after = all.1 }

@@ -10,12 +10,14 @@ use Rattle.print.proofs.print.print_answer.Goals as goal
 pub returns-then-out-at : goal.returns-then-out-at
 returns-then-out-at c =
     let a = c.args in
-    refused a.out.now a.at (answer_line a.number a.value) (omega arith)
+    let all = refused a.out.now a.at (answer_line a.number a.value) (omega arith) in
+    record { next = all.0; bytes = all.1 }
 
 pub returns-then-out-at-2 : goal.returns-then-out-at-2
 returns-then-out-at-2 c =
     let a = c.args in
-    refused a.out.now a.at (answer_line a.number a.value) (omega (arith, answer-length a.number a.value))
+    let all = refused a.out.now a.at (answer_line a.number a.value) (omega (arith, answer-length a.number a.value)) in
+    record { next = all.0; bytes = all.1 }
 
 pub put_value-requires : goal.put_value-requires
 put_value-requires c =
@@ -24,5 +26,6 @@ put_value-requires c =
 pub returns : goal.returns
 unfolding decimal_text answer_line
 returns c =
-    rw (← c.width-count.ensures.0)
-    (whole (join (join c.put-a.ensures c.put_digits-b.ensures) c.put_value.ensures))
+    let all = rw (← c.width-count.ensures.0)
+    (whole (join (join c.put-a.ensures c.put_digits-b.ensures) c.put_value.ensures)) in
+    record { next = all.0; bytes = all.1 }

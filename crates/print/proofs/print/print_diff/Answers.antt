@@ -10,13 +10,15 @@ use Rattle.print.proofs.print.print_diff.Goals as goal
 pub returns-then-out-at : goal.returns-then-out-at
 returns-then-out-at c =
     let a = c.args in
-    refused a.out.now a.at (diff_line a.start a.end a.old a.new a.count) (omega arith)
+    let all = refused a.out.now a.at (diff_line a.start a.end a.old a.new a.count) (omega arith) in
+    record { next = all.0; bytes = all.1 }
 
 pub returns-then-out-at-2 : goal.returns-then-out-at-2
 returns-then-out-at-2 c =
     let a = c.args in
-    refused a.out.now a.at (diff_line a.start a.end a.old a.new a.count)
-    (omega (arith, diff-length a.start a.end a.old a.new a.count))
+    let all = refused a.out.now a.at (diff_line a.start a.end a.old a.new a.count)
+    (omega (arith, diff-length a.start a.end a.old a.new a.count)) in
+    record { next = all.0; bytes = all.1 }
 
 pub put_hex-c-requires : goal.put_hex-c-requires
 put_hex-c-requires c =
@@ -40,7 +42,8 @@ put_digits-requires c =
 pub returns : goal.returns
 unfolding decimal_text diff_line
 returns c =
-    rw (← c.width-digits.ensures.0)
+    let all = rw (← c.width-digits.ensures.0)
     (whole
     (join (join (join c.put-a.ensures (join c.put_hex-b.ensures c.put_hex-c.ensures)) (join c.put_rights-d.ensures c.put_rights-e.ensures))
-    c.put_digits.ensures))
+    c.put_digits.ensures)) in
+    record { next = all.0; bytes = all.1 }

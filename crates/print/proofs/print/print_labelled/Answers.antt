@@ -9,14 +9,17 @@ use Rattle.print.proofs.print.print_labelled.Goals as goal
 pub returns-then-out-at : goal.returns-then-out-at
 returns-then-out-at c =
     let a = c.args in
-    refused a.out.now a.at (label_line a.label.now a.n) (omega arith)
+    let all = refused a.out.now a.at (label_line a.label.now a.n) (omega arith) in
+    record { next = all.0; bytes = all.1 }
 
 pub returns-then-out-at-2 : goal.returns-then-out-at-2
 returns-then-out-at-2 c =
     let a = c.args in
-    refused a.out.now a.at (label_line a.label.now a.n) (omega (arith, label-length a.label.now a.n))
+    let all = refused a.out.now a.at (label_line a.label.now a.n) (omega (arith, label-length a.label.now a.n)) in
+    record { next = all.0; bytes = all.1 }
 
 pub returns : goal.returns
 unfolding decimal_text label_line
 returns c =
-    rw (← c.width-count.ensures.0) (whole (join c.put-a.ensures c.put_digits.ensures))
+    let all = rw (← c.width-count.ensures.0) (whole (join c.put-a.ensures c.put_digits.ensures)) in
+    record { next = all.0; bytes = all.1 }

@@ -10,14 +10,16 @@ use Rattle.print.proofs.print.print_span.Goals as goal
 pub returns-then-out-lt-SPAN_LENGTH : goal.returns-then-out-lt-SPAN_LENGTH
 returns-then-out-lt-SPAN_LENGTH c =
     let a = c.args in
-    refused a.out.now a.at (span_line a.start a.end a.rights)
-    (omega (arith, span-length a.start a.end a.rights))
+    let all = refused a.out.now a.at (span_line a.start a.end a.rights)
+    (omega (arith, span-length a.start a.end a.rights)) in
+    record { next = all.0; bytes = all.1 }
 
 pub returns-then-out-at : goal.returns-then-out-at
 returns-then-out-at c =
     let a = c.args in
-    refused a.out.now a.at (span_line a.start a.end a.rights)
-    (omega (arith, span-length a.start a.end a.rights))
+    let all = refused a.out.now a.at (span_line a.start a.end a.rights)
+    (omega (arith, span-length a.start a.end a.rights)) in
+    record { next = all.0; bytes = all.1 }
 
 pub put_hex-c-requires : goal.put_hex-c-requires
 put_hex-c-requires c =
@@ -31,7 +33,8 @@ put_rights-requires c =
 pub returns : goal.returns
 unfolding span_line
 returns c =
-    whole
+    let all = whole
     (join
     (join (join c.put-a.ensures c.put_hex-b.ensures) c.put_hex-c.ensures)
-    c.put_rights.ensures)
+    c.put_rights.ensures) in
+    record { next = all.0; bytes = all.1 }

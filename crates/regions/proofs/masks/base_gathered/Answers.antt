@@ -6,11 +6,11 @@ use Rattle.regions.proofs.masks.base_gathered.Goals as goal
 
 pub returns-then-not-covers : goal.returns-then-not-covers
 unfolding base_gathered
-returns-then-not-covers c = simp (← c.covers.ensures, not-true c.covers.result c.if-not-covers.true)
+returns-then-not-covers c = simp (← c.covers.ensures, c.if-not-covers.true)
 
 pub returns : goal.returns
 unfolding base_gathered
 returns c =
-    simp (← c.covers.ensures, not-false c.covers.result c.if-not-covers.false)
+    simp (← c.covers.ensures, c.if-not-covers.false)
     (c.sub_gathered.ensures
     ∙ ap (sub_gathered _ _ _ _ 1 _) (c.sub_gathered-first.ensures ∙ ap (sub_gathered _ _ _ _ 0 _) c.with_base-based.ensures))

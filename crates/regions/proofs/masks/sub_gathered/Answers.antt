@@ -5,14 +5,14 @@ use Rattle.regions.proofs.masks.sub_gathered.Goals as goal
 
 pub returns-then-not-covers : goal.returns-then-not-covers
 unfolding sub_gathered
-returns-then-not-covers c = simp (← c.covers.ensures, not-true c.covers.result c.if-not-covers.true)
+returns-then-not-covers c = simp (← c.covers.ensures, c.if-not-covers.true)
 
 pub returns-then-privileged : goal.returns-then-privileged
 unfolding sub_gathered
 returns-then-privileged c =
-    simp (c.if-privileged.true, ← c.covers.ensures, not-false c.covers.result c.if-not-covers.false, ← c.serving-opens.ensures) c.with_sub_privileged.ensures
+    simp (c.if-privileged.true, ← c.covers.ensures, c.if-not-covers.false, ← c.serving-opens.ensures) c.with_sub_privileged.ensures
 
 pub returns : goal.returns
 unfolding sub_gathered
 returns c =
-    simp (c.if-privileged.false, ← c.covers.ensures, not-false c.covers.result c.if-not-covers.false, ← c.serving-opens.ensures) c.with_sub.ensures
+    simp (c.if-privileged.false, ← c.covers.ensures, c.if-not-covers.false, ← c.serving-opens.ensures) c.with_sub.ensures

@@ -9,14 +9,14 @@ pub returns-then-not-admits_security : goal.returns-then-not-admits_security
 returns-then-not-admits_security c =
     let s = c.admits_security in
     let a = c.args in
-    byte-none a.a a.write a.privileged a.secure (sym s.ensures ∙ not-true s.result c.if-not-admits_security.true)
+    byte-none a.a a.write a.privileged a.secure (sym s.ensures ∙ c.if-not-admits_security.true)
 
 pub returns-then-privileged : goal.returns-then-privileged
 returns-then-privileged c =
     let s = c.admits_security in
     let a = c.args in
     rw c.open_to-open.ensures
-    (byte-privileged a.a a.write a.privileged a.secure (sym s.ensures ∙ not-false s.result c.if-not-admits_security.false)
+    (byte-privileged a.a a.write a.privileged a.secure (sym s.ensures ∙ c.if-not-admits_security.false)
     c.if-privileged.true)
 
 pub returns : goal.returns
@@ -24,5 +24,5 @@ returns c =
     let s = c.admits_security in
     let a = c.args in
     rw c.open_to-open.ensures
-    (byte-unprivileged a.a a.write a.privileged a.secure (sym s.ensures ∙ not-false s.result c.if-not-admits_security.false)
+    (byte-unprivileged a.a a.write a.privileged a.secure (sym s.ensures ∙ c.if-not-admits_security.false)
     c.if-privileged.false (omega arith))

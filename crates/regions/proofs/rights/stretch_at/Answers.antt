@@ -11,21 +11,21 @@ use Rattle.regions.proofs.rights.stretch_at.Goals as goal
 
 pub returns-then-n-gt-MOST_REGIONS : goal.returns-then-n-gt-MOST_REGIONS
 unfolding rights_in ahead_in
-returns-then-n-gt-MOST_REGIONS c = simp (lt-leb _ _ c.if-n-gt-MOST_REGIONS.true) (refl, refl)
+returns-then-n-gt-MOST_REGIONS c = simp (lt-leb _ _ c.if-n-gt-MOST_REGIONS.true) (record { rights_value = refl; to_value = refl })
 
 pub returns-then-w-n : goal.returns-then-w-n
 unfolding rights_in ahead_in
-returns-then-w-n c = simp (le-leb _ _ c.if-n-gt-MOST_REGIONS.false, lt-leb _ _ c.if-w-n.true) (refl, refl)
+returns-then-w-n c = simp (le-leb _ _ c.if-n-gt-MOST_REGIONS.false, lt-leb _ _ c.if-w-n.true) (record { rights_value = refl; to_value = refl })
 
 pub returns : goal.returns
 unfolding rights_in ahead_in
 returns c =
     let a = c.args in
     let s = c.scanned-s.ensures in
-    simp (le-leb _ _ c.if-n-gt-MOST_REGIONS.false, le-leb _ _ c.if-w-n.false) (
-      c.rights_by.ensures
+    simp (le-leb _ _ c.if-n-gt-MOST_REGIONS.false, le-leb _ _ c.if-w-n.false) (record {
+      rights_value = c.rights_by.ensures
           ∙ ap (λ (x : Admits). rights_from (as_heard a.bus x) 0 64)
           (ap (by_masks a.bus) s.masks_value ∙ masks-found a.bus a.w.now a.n a.o)
-          ∙ rights-admitted a.bus a.w.now a.n a.o,
-      s.to_value,
-    )
+          ∙ rights-admitted a.bus a.w.now a.n a.o;
+      to_value = s.to_value;
+    })

@@ -8,13 +8,13 @@ use Rattle.regions.proofs.scan.base_scanned.Goals as goal
 
 pub returns-then-w-b-ne1 : goal.returns-then-w-b-ne1
 unfolding base_gathered base_ahead
-returns-then-w-b-ne1 c = simp (ne_eqb _ _ c.if-w-b-ne1.true) (refl, refl)
+returns-then-w-b-ne1 c = simp (ne_eqb _ _ c.if-w-b-ne1.true) (record { masks_value = refl; to_value = refl })
 
 pub returns-then-o-w : goal.returns-then-o-w
 unfolding base_gathered base_ahead
 returns-then-o-w c =
     simp (eq-eqb _ _ c.if-w-b-ne1.false, lt-ltb _ _ c.if-o-w.true, lt-leb _ _ c.if-o-w.true)
-    (refl, c.start_ahead.ensures)
+    (record { masks_value = refl; to_value = c.start_ahead.ensures })
 
 pub returns-then-w-b : goal.returns-then-w-b
 unfolding base_gathered base_ahead
@@ -26,7 +26,7 @@ returns-then-w-b c =
       lt-ltb _ _ c.if-w-b.true,
       lt-leb _ _ c.if-w-b.true,
     )
-    (refl, refl)
+    (record { masks_value = refl; to_value = refl })
 
 pub returns : goal.returns
 unfolding base_gathered base_ahead
@@ -39,4 +39,4 @@ returns c =
       le-ltb _ _ c.if-w-b.false,
       le-leb _ _ c.if-w-b.false,
     )
-    (r.masks_value, r.to_value)
+    (record { masks_value = r.masks_value; to_value = r.to_value })

@@ -13,7 +13,7 @@ unfolding sub_ahead
 returns-then-w-p-ne1 c =
     let a = c.args in
     let e = ahead-off a.w.now (sub a.x a.s) a.o (λ t. t) a.scan.to (ne_eqb _ _ c.if-w-p-ne1.true) in
-    (sub_out _ _ _ _ _ _ _ e.1, e.0)
+    record { masks_value = sub_out _ _ _ _ _ _ _ e.1; to_value = e.0 }
 
 pub returns-then-o-w : goal.returns-then-o-w
 unfolding sub_ahead
@@ -21,7 +21,7 @@ returns-then-o-w c =
     let a = c.args in
     let on = eq-eqb _ _ c.if-w-p-ne1.false in
     let e = ahead_before a.w.now (sub a.x a.s) a.o (λ t. t) a.scan.to on c.if-o-w.true in
-    (sub_out _ _ _ _ _ _ _ e.1, c.start_ahead.ensures ∙ e.0)
+    record { masks_value = sub_out _ _ _ _ _ _ _ e.1; to_value = c.start_ahead.ensures ∙ e.0 }
 
 pub returns-then-w-p : goal.returns-then-w-p
 unfolding sub_ahead
@@ -29,7 +29,7 @@ returns-then-w-p c =
     let a = c.args in
     let on = eq-eqb _ _ c.if-w-p-ne1.false in
     let e = ahead_past a.w.now (sub a.x a.s) a.o (λ t. t) a.scan.to on c.if-o-w.false c.if-w-p.true in
-    (sub_out _ _ _ _ _ _ _ e.1, e.0)
+    record { masks_value = sub_out _ _ _ _ _ _ _ e.1; to_value = e.0 }
 
 pub returns : goal.returns
 unfolding sub_ahead

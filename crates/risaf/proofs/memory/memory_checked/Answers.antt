@@ -42,22 +42,22 @@ returns-then-not-is_width c =
     let w = c.is_width in
     let a = c.args in
     no-width a.there a.shape a.o a.width a.k (not-false a.there c.if-not-there.false) (le-leb _ _ c.if-k.false)
-    (sym w.ensures ∙ not-true w.result c.if-not-is_width.true)
+    (sym w.ensures ∙ c.if-not-is_width.true)
 
 pub returns-then-not-aligned : goal.returns-then-not-aligned
 returns-then-not-aligned c =
     let l = c.aligned in
     let w = c.is_width in
     let a = c.args in
-    let ew = sym w.ensures ∙ not-false w.result c.if-not-is_width.false in
+    let ew = sym w.ensures ∙ c.if-not-is_width.false in
     misaligned a.there a.shape a.o a.width a.k (not-false a.there c.if-not-there.false) (le-leb _ _ c.if-k.false) ew
-    (sym (l.ensures ew) ∙ not-true l.result c.if-not-aligned.true)
+    (sym (l.ensures ew) ∙ c.if-not-aligned.true)
 
 pub returns : goal.returns
 returns c =
     let l = c.aligned in
     let w = c.is_width in
     let a = c.args in
-    let ew = sym w.ensures ∙ not-false w.result c.if-not-is_width.false in
+    let ew = sym w.ensures ∙ c.if-not-is_width.false in
     placed-is a.there a.shape a.o a.width a.k (not-false a.there c.if-not-there.false) (le-leb _ _ c.if-k.false) ew
-    (sym (l.ensures ew) ∙ not-false l.result c.if-not-aligned.false) c.placed-2.ensures
+    (sym (l.ensures ew) ∙ c.if-not-aligned.false) c.placed-2.ensures

@@ -31,7 +31,7 @@ returns-then-not-begins c =
     (
       no_block c.requires (told c.begins.ensures c.if-begins.false)
           (told c.begins-2.ensures c.if-begins-2.false)
-          (told c.begins-3.ensures (not-true c.begins-3.result c.if-not-begins.true)),
+          (told c.begins-3.ensures (c.if-not-begins.true)),
       omega arith,
     )
 
@@ -40,7 +40,7 @@ risaf : (c : goal.Else-not-begins)
     ≡ (number_or Bad (decimal_of (field_at (fields_of (start c).args.line.now) 2)) λ guard.
     request_fields (Risaf (record { 0 = guard })) 3 (fields_of (start c).args.line.now)))
     × Starts (start c).args.line.now (fields_of (start c).args.line.now) 2 ((start c).args.from + 6)
-risaf c = is-risaf (start c).requires (told c.begins-3.ensures (not-false c.begins-3.result c.if-not-begins.false))
+risaf c = is-risaf (start c).requires (told c.begins-3.ensures (c.if-not-begins.false))
 
 pub returns-in_default : goal.returns-in_default
 returns-in_default c =

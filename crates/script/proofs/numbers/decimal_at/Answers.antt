@@ -20,14 +20,14 @@ returns-then-line-from c = decimal-past _ _ c.if-line-from.true
 pub returns-then-not-is_decimal : goal.returns-then-not-is_decimal
 returns-then-not-is_decimal c =
     decimal-none _ _ c.if-line-from.false
-    (told c.is_decimal.ensures (not-true c.is_decimal.result c.if-not-is_decimal.true))
+    (told c.is_decimal.ensures (c.if-not-is_decimal.true))
 
 -- the first digit
 abbrev start : tie.Else2 invariant-loop decreases-loop → tie.Start invariant-loop decreases-loop
 start c = c.before.before.before.before.before
 
 first : (c : goal.Else-not-is_decimal) → is_decimal (get_or (start c).args.line.now (start c).args.from 0) ≡ true
-first c = told c.is_decimal.ensures (not-false c.is_decimal.result c.if-not-is_decimal.false)
+first c = told c.is_decimal.ensures (c.if-not-is_decimal.false)
 
 first-bounds : (c : goal.Else-not-is_decimal)
     → (48 ≤ get_or (start c).args.line.now (start c).args.from 0) × (get_or (start c).args.line.now (start c).args.from 0 ≤ 57)

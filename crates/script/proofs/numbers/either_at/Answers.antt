@@ -16,7 +16,7 @@ use Rattle.script.proofs.numbers.either_at.Goals as goal
 
 pub returns-then-not-ends : goal.returns-then-not-ends
 returns-then-not-ends c =
-    not_there (either-fixed _ _ c.requires.1 c.requires.2) _ _ (told c.ends.ensures (not-true c.ends.result c.if-not-ends.true))
+    not_there (either-fixed _ _ c.requires.1 c.requires.2) _ _ (told c.ends.ensures (c.if-not-ends.true))
 
 abbrev start : tie.Else1 → tie.Start
 start c = c.before.before.before
@@ -24,7 +24,7 @@ start c = c.before.before.before
 within : (c : goal.Else-not-ends) → (start c).args.from + 1 ≤ length (start c).args.line.now
 within c =
     ends-within (start c).args.line.now ((start c).args.from + 1)
-    (told c.ends.ensures (not-false c.ends.result c.if-not-ends.false))
+    (told c.ends.ensures (c.if-not-ends.false))
 
 -- the field is the byte there
 byte : (c : goal.Else-not-ends)
@@ -33,7 +33,7 @@ byte : (c : goal.Else-not-ends)
 byte c =
     let a = (start c).args in
     ap (either_of a.this a.that) (sym (one_byte a.line.now a.from (omega (arith, within c))))
-    ∙ read-there (either-fixed _ _ (start c).requires.1 (start c).requires.2) _ _ (told c.ends.ensures (not-false c.ends.result c.if-not-ends.false))
+    ∙ read-there (either-fixed _ _ (start c).requires.1 (start c).requires.2) _ _ (told c.ends.ensures (c.if-not-ends.false))
 
 pub returns-then-b-this : goal.returns-then-b-this
 returns-then-b-this c = rw c.if-b-this.true at (either-byte _ _ _ ∙ byte c.before.before)

@@ -10,13 +10,13 @@ use Rattle.script.proofs.numbers.hex_at.Goals as goal
 
 pub returns-then-not-ends : goal.returns-then-not-ends
 returns-then-not-ends c =
-    not_there hex-fixed _ _ (told c.ends.ensures (not-true c.ends.result c.if-not-ends.true))
+    not_there hex-fixed _ _ (told c.ends.ensures (c.if-not-ends.true))
 
 pub hex-requires : goal.hex-requires
 hex-requires c =
     let a = c.args in
-    ends-within a.line.now (a.from + 8) (told c.ends.ensures (not-false c.ends.result c.if-not-ends.false))
+    ends-within a.line.now (a.from + 8) (told c.ends.ensures (c.if-not-ends.false))
 
 pub returns : goal.returns
 returns c =
-    c.hex.ensures ∙ read-there hex-fixed _ _ (told c.ends.ensures (not-false c.ends.result c.if-not-ends.false))
+    c.hex.ensures ∙ read-there hex-fixed _ _ (told c.ends.ensures (c.if-not-ends.false))

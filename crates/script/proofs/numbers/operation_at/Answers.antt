@@ -17,7 +17,7 @@ use Rattle.script.proofs.numbers.operation_at.Goals as goal
 
 pub returns-then-not-ends : goal.returns-then-not-ends
 returns-then-not-ends c =
-    not_there operation-fixed _ _ (told c.ends.ensures (not-true c.ends.result c.if-not-ends.true))
+    not_there operation-fixed _ _ (told c.ends.ensures (c.if-not-ends.true))
 
 abbrev start : tie.Else1 → tie.Start
 start c = c.before.before.before
@@ -25,7 +25,7 @@ start c = c.before.before.before
 within : (c : goal.Else-not-ends) → (start c).args.from + 1 ≤ length (start c).args.line.now
 within c =
     ends-within (start c).args.line.now ((start c).args.from + 1)
-    (told c.ends.ensures (not-false c.ends.result c.if-not-ends.false))
+    (told c.ends.ensures (c.if-not-ends.false))
 
 -- the field is the byte there
 byte : (c : goal.Else-not-ends)
@@ -33,7 +33,7 @@ byte : (c : goal.Else-not-ends)
 byte c =
     let a = (start c).args in
     ap operation_of (sym (one_byte a.line.now a.from (omega (arith, within c))))
-    ∙ read-there operation-fixed _ _ (told c.ends.ensures (not-false c.ends.result c.if-not-ends.false))
+    ∙ read-there operation-fixed _ _ (told c.ends.ensures (c.if-not-ends.false))
 
 pub returns-in-114 : goal.returns-in-114
 unfolding operation_of same

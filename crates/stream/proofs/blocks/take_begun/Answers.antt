@@ -18,7 +18,7 @@ returns-then-not-has_room c =
     let a = c.args in
     let k = kept_of a.held a.line.now a.state.now in
     begun-full k a.block.now a.out.now a.at c.line-end.result c.requires.0 c.requires.1 c.line-end.ensures c.if1.false
-    (sym c.has_room.ensures ∙ not-true c.has_room.result c.if-not-has_room.true) c.stopped-then-not-has_room.ensures
+    (sym c.has_room.ensures ∙ c.if-not-has_room.true) c.stopped-then-not-has_room.ensures
 
 pub slice_bounds-keep-end : goal.slice_bounds-keep-end
 slice_bounds-keep-end c =
@@ -52,7 +52,7 @@ returns-then-ended c =
     let k = kept_of a.held a.line.now a.state.now in
     let e = c.end_line-ended.ensures in
     begun-bad k a.block.now a.out.now a.at c.line-end.result c.requires.0 c.requires.1 c.line-end.ensures c.if1.false c.keep2.ensures.0 c.keep2.ensures.1 c.requires.2
-    e.place_value e.bad_value.0 e.bad_value.1.0 e.bad_value.1.1 (sym c.has_room.ensures ∙ not-false c.has_room.result c.if2.false) c.if-ended.true c.behind_bad.ensures
+    e.place_value e.bad_value.0 e.bad_value.1.0 e.bad_value.1.1 (sym c.has_room.ensures ∙ c.if2.false) c.if-ended.true c.behind_bad.ensures
 
 pub overflow_add-end-2 : goal.overflow_add-end-2
 overflow_add-end-2 c =
@@ -73,4 +73,4 @@ returns c =
     let k = kept_of a.held a.line.now a.state.now in
     let e = c.end_line-ended.ensures in
     begun-on k a.block.now a.out.now a.at c.line-end.result c.requires.0 c.requires.1 c.line-end.ensures c.if1.false c.keep2.ensures.0 c.keep2.ensures.1 c.requires.2
-    e.place_value e.bad_value.0 e.bad_value.1.0 e.bad_value.1.1 (sym c.has_room.ensures ∙ not-false c.has_room.result c.if2.false) c.if-ended.false c.wrapping_add_u64.ensures c.take_lines.ensures
+    e.place_value e.bad_value.0 e.bad_value.1.0 e.bad_value.1.1 (sym c.has_room.ensures ∙ c.if2.false) c.if-ended.false c.wrapping_add_u64.ensures c.take_lines.ensures

@@ -31,14 +31,14 @@ unfolding accessed answer_of checks_of answered_with reached_with
 returns-then-not-admits c =
     let q = c.args.q in
     let r = c.args.row in
-    simp (c.left-then-not-admits.ensures, not-false q.write c.if-not-q.false, eq-eqb (q.offset % 4) 0 c.if-q-ne0.false, not-false r.known c.if-not-row.false, sym c.admits.ensures ∙ not-true c.admits.result c.if-not-admits.true)
+    simp (c.left-then-not-admits.ensures, not-false q.write c.if-not-q.false, eq-eqb (q.offset % 4) 0 c.if-q-ne0.false, not-false r.known c.if-not-row.false, sym c.admits.ensures ∙ c.if-not-admits.true)
 
 pub returns-then-not-row-2 : goal.returns-then-not-row-2
 unfolding accessed answer_of checks_of answered_with reached_with
 returns-then-not-row-2 c =
     let q = c.args.q in
     let r = c.args.row in
-    simp (c.left-then-not-row-2.ensures, not-false q.write c.if-not-q.false, eq-eqb (q.offset % 4) 0 c.if-q-ne0.false, not-false r.known c.if-not-row.false, sym c.admits.ensures ∙ not-false c.admits.result c.if-not-admits.false, not-true r.writable c.if-not-row-2.true)
+    simp (c.left-then-not-row-2.ensures, not-false q.write c.if-not-q.false, eq-eqb (q.offset % 4) 0 c.if-q-ne0.false, not-false r.known c.if-not-row.false, sym c.admits.ensures ∙ c.if-not-admits.false, not-true r.writable c.if-not-row-2.true)
 
 pub returns : goal.returns
 returns c =
@@ -47,5 +47,5 @@ returns c =
     let s = c.args in
     c.left-2.ensures
     ∙ write-left s.reg r s.self q (not-false q.write c.if-not-q.false) (eq-eqb (q.offset % 4) 0 c.if-q-ne0.false)
-    (not-false r.known c.if-not-row.false) (sym c.admits.ensures ∙ not-false c.admits.result c.if-not-admits.false)
+    (not-false r.known c.if-not-row.false) (sym c.admits.ensures ∙ c.if-not-admits.false)
     (not-false r.writable c.if-not-row-2.false) c.word_written.ensures

@@ -21,16 +21,16 @@ pub returns-then-not-admits : goal.returns-then-not-admits
 unfolding read_answer
 returns-then-not-admits c =
     let a = c.args in
-    simp (eq-eqb (a.q.offset % 4) 0 c.if-q-ne0.false, not-false a.self.known c.if-not-self.false, sym c.admits.ensures ∙ not-true c.admits.result c.if-not-admits.true)
+    simp (eq-eqb (a.q.offset % 4) 0 c.if-q-ne0.false, not-false a.self.known c.if-not-self.false, sym c.admits.ensures ∙ c.if-not-admits.true)
 
 pub returns-then-not-self-2 : goal.returns-then-not-self-2
 unfolding read_answer
 returns-then-not-self-2 c =
     let a = c.args in
-    simp (eq-eqb (a.q.offset % 4) 0 c.if-q-ne0.false, not-false a.self.known c.if-not-self.false, sym c.admits.ensures ∙ not-false c.admits.result c.if-not-admits.false, not-true a.self.readable c.if-not-self-2.true)
+    simp (eq-eqb (a.q.offset % 4) 0 c.if-q-ne0.false, not-false a.self.known c.if-not-self.false, sym c.admits.ensures ∙ c.if-not-admits.false, not-true a.self.readable c.if-not-self-2.true)
 
 pub returns : goal.returns
 unfolding read_answer read_of
 returns c =
     let a = c.args in
-    simp (eq-eqb (a.q.offset % 4) 0 c.if-q-ne0.false, not-false a.self.known c.if-not-self.false, sym c.admits.ensures ∙ not-false c.admits.result c.if-not-admits.false, not-false a.self.readable c.if-not-self-2.false, c.united.ensures, c.masked.ensures)
+    simp (eq-eqb (a.q.offset % 4) 0 c.if-q-ne0.false, not-false a.self.known c.if-not-self.false, sym c.admits.ensures ∙ c.if-not-admits.false, not-false a.self.readable c.if-not-self-2.false, c.united.ensures, c.masked.ensures)
