@@ -23,3 +23,6 @@ returns c =
     let s = state_of c.args.state.now in
     l.invariant.2 ∙ ap (λ (n : ℕ). with_guards (state_of m) (reset_below n (state_of m).guards)) e
     ∙ state-reset m s c.reset.ensures c.store_rifsc.ensures c.reset-2.ensures c.store_iac.ensures
+
+pub loop-n-init : goal.loop-n-init
+loop-n-init c = (search rules, search rules, refl)

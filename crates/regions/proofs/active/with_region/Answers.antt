@@ -8,6 +8,7 @@ use borrow.Author.Rules.{rules}
 use borrow.Author.Tests.{eq-eqb, ne_eqb}
 use Rattle.regions.proofs.Inactive.{with-off, with-before, with-past, with-inside}
 use Rattle.regions.proofs.active.with_region.Goals as goal
+use Rattle.regions.proofs.active.with_region.Goals.{then-a-eq0, else-a-eq0}
 
 pub returns-then-w-b-ne1 : goal.returns-then-w-b-ne1
 returns-then-w-b-ne1 c = with-off _ _ _ _ (ne_eqb _ _ c.if-w-b-ne1.true)
@@ -26,6 +27,9 @@ pub returns : goal.returns
 returns c =
     let a = c.args in
     let low : c.if-a-eq0.low ≡ cond (eqb a.a.high 0) a.x a.a.low =
-    ⊎_elim (λ w. simp (eq-eqb a.a.high 0 w.0.taken) w.1) (λ w. simp (ne_eqb a.a.high 0 w.0.left) w.1) c.if-a-eq0.branch in
+    elim c.if-a-eq0.branch [
+      | then-a-eq0 w ↦ simp (eq-eqb a.a.high 0 w.if-a-eq0.true) w.low-is
+      | else-a-eq0 w ↦ simp (ne_eqb a.a.high 0 w.if-a-eq0.false) w.low-is
+    ] in
     ap (λ (l : ℕ). record { low = l; high = a.x + 1; to = a.a.to }) low
     ∙ with-inside a.w.now a.x a.o a.a (eq-eqb _ _ c.if-w-b-ne1.false) c.if-o-w.false c.if-w-b.false

@@ -49,14 +49,14 @@ pub returns-in-16-to-39 : goal.returns-in-16-to-39
 unfolding register_at
 returns-in-16-to-39 c =
     let o = c.args.offset in
-    simp (ne_eqb o 0x000 c.in_default-1.rest.0.1, le-leb 0x010 o (omega arith), le-leb o 0x027 (omega arith))
+    simp (ne_eqb o 0x000 (omega arith), le-leb 0x010 o (omega arith), le-leb o 0x027 (omega arith))
 
 pub returns-in-48-to-71 : goal.returns-in-48-to-71
 unfolding register_at
 returns-in-48-to-71 c =
     let o = c.args.offset in
     simp (
-      ne_eqb o 0x000 c.in_default-1.rest.0.1,
+      ne_eqb o 0x000 (omega arith),
       lt-leb o 0x027 (omega arith),
       le-leb 0x030 o (omega arith),
       le-leb o 0x047 (omega arith),
@@ -68,7 +68,7 @@ unfolding register_at
 returns-in-80-to-103 c =
     let o = c.args.offset in
     simp (
-      ne_eqb o 0x000 c.in_default-1.rest.0.1,
+      ne_eqb o 0x000 (omega arith),
       lt-leb o 0x027 (omega arith),
       lt-leb o 0x047 (omega arith),
       le-leb 0x050 o (omega arith),
@@ -81,11 +81,11 @@ unfolding register_at
 returns-in-3088-to-3139 c =
     let o = c.args.offset in
     simp (
-      ne_eqb o 0x000 c.in_default-1.rest.0.1,
+      ne_eqb o 0x000 (omega arith),
       lt-leb o 0x027 (omega arith),
       lt-leb o 0x047 (omega arith),
       lt-leb o 0x067 (omega arith),
-      ne_eqb o 0xc00 c.in_default-1.rest.1,
+      ne_eqb o 0xc00 (omega arith),
       le-leb 0xc10 o (omega arith),
       le-leb o 0xc43 (omega arith),
       and-false,
@@ -96,13 +96,31 @@ unfolding register_at
 returns-in-4016-to-4039 c =
     let o = c.args.offset in
     simp (
-      ne_eqb o 0x000 c.in_default-1.rest.0.1,
+      ne_eqb o 0x000 (omega arith),
       lt-leb o 0x027 (omega arith),
       lt-leb o 0x047 (omega arith),
       lt-leb o 0x067 (omega arith),
-      ne_eqb o 0xc00 c.in_default-1.rest.1,
+      ne_eqb o 0xc00 (omega arith),
       lt-leb o 0xc43 (omega arith),
       le-leb 0xfb0 o (omega arith),
       le-leb o 0xfc7 (omega arith),
       and-false,
     )
+
+pub returns-in_default : goal.returns-in_default
+returns-in_default c = none c.args.offset (omega arith) (omega arith) (omega arith, omega arith, omega arith, omega arith, omega arith)
+
+pub returns-in_default-2 : goal.returns-in_default-2
+returns-in_default-2 c = none c.args.offset (omega arith) (omega arith) (omega arith, omega arith, omega arith, omega arith, omega arith)
+
+pub returns-in_default-3 : goal.returns-in_default-3
+returns-in_default-3 c = none c.args.offset (omega arith) (omega arith) (omega arith, omega arith, omega arith, omega arith, omega arith)
+
+pub returns-in_default-4 : goal.returns-in_default-4
+returns-in_default-4 c = none c.args.offset (omega arith) (omega arith) (omega arith, omega arith, omega arith, omega arith, omega arith)
+
+pub returns-in_default-5 : goal.returns-in_default-5
+returns-in_default-5 c = none c.args.offset (omega arith) (omega arith) (omega arith, omega arith, omega arith, omega arith, omega arith)
+
+pub returns-in_default-6 : goal.returns-in_default-6
+returns-in_default-6 c = none c.args.offset (omega arith) (omega arith) (omega arith, omega arith, omega arith, omega arith, omega arith)

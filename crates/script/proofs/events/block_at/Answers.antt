@@ -60,3 +60,9 @@ returns c =
       r.0 ∙ rw (decimal-read r.1 c.decimal_at.ensures c.in-Till.is) (sym (request-there n (Risaf _))),
       n.within,
     )
+
+pub overflow_add-from : goal.overflow_add-from
+overflow_add-from c = omega (arith, (risaf c).1.within)
+
+pub overflow_add-result-2 : goal.overflow_add-result-2
+overflow_add-result-2 c = omega (arith, (next c.before).within)

@@ -71,3 +71,9 @@ returns c =
       there (first (secure one)) (either_of (code "s") (code "n")) one.before.before.either-at.ensures one.secure.given.1,
       there (second one) (either_of (code "p") (code "u")) c.either_at-2.ensures c.in-Made-either_at.is,
     )
+
+pub either_at-requires : goal.either_at-requires
+either_at-requires c = (c.requires, lit< tt, lit< tt)
+
+pub either_at-requires-2 : goal.either_at-requires-2
+either_at-requires-2 c = ((second c.before).within, lit< tt, lit< tt)

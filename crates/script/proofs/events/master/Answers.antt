@@ -121,3 +121,27 @@ returns c =
     let o = width w in
     let g = offset o in
     rw (its-count (sixth c) (omega (arith, c.if-line-width_end.false)), its-master (guard g), its-guard g, its-offset o, its-width w, its-write c)
+
+pub overflow_add-master_end : goal.overflow_add-master_end
+overflow_add-master_end c = omega (arith, (second c.before).within)
+
+pub overflow_add-guard_end : goal.overflow_add-guard_end
+overflow_add-guard_end c = omega (arith, (third c.before).within)
+
+pub hex_at-requires : goal.hex_at-requires
+hex_at-requires c = (third c.before).within
+
+pub overflow_add-guard_end-2 : goal.overflow_add-guard_end-2
+overflow_add-guard_end-2 c = omega (arith, (fourth c.before).within)
+
+pub overflow_add-guard_end-3 : goal.overflow_add-guard_end-3
+overflow_add-guard_end-3 c = omega (arith, (fourth c.before).within)
+
+pub overflow_add-width_end : goal.overflow_add-width_end
+overflow_add-width_end c = omega (arith, (fifth c.before).within)
+
+pub either_at-requires : goal.either_at-requires
+either_at-requires c = ((fifth c.before).within, lit< tt, lit< tt)
+
+pub overflow_add-width_end-2 : goal.overflow_add-width_end-2
+overflow_add-width_end-2 c = omega (arith, (sixth c.before).within)

@@ -138,3 +138,33 @@ returns c =
     let e = some-rights (eqb (length (all c)) 8) (rights_fields (all c) 6)
     (told (c.last_rights.ensures ∙ rights-there (sixth c)) c.in-Are.is) in
     rw (e.0, its-guard (offset o), its-offset o, its-width w, its-write t, its-cid c, e.1)
+
+pub overflow_add-guard_end : goal.overflow_add-guard_end
+overflow_add-guard_end c = omega (arith, (second c.before).within)
+
+pub hex_at-requires : goal.hex_at-requires
+hex_at-requires c = (second c.before).within
+
+pub overflow_add-guard_end-2 : goal.overflow_add-guard_end-2
+overflow_add-guard_end-2 c = omega (arith, (third c.before).within)
+
+pub overflow_add-guard_end-3 : goal.overflow_add-guard_end-3
+overflow_add-guard_end-3 c = omega (arith, (third c.before).within)
+
+pub overflow_add-width_end : goal.overflow_add-width_end
+overflow_add-width_end c = omega (arith, (fourth c.before).within)
+
+pub either_at-requires : goal.either_at-requires
+either_at-requires c = ((fourth c.before).within, lit< tt, lit< tt)
+
+pub overflow_add-width_end-2 : goal.overflow_add-width_end-2
+overflow_add-width_end-2 c = omega (arith, (fifth c.before).within)
+
+pub overflow_add-width_end-3 : goal.overflow_add-width_end-3
+overflow_add-width_end-3 c = omega (arith, (fifth c.before).within)
+
+pub overflow_add-cid_end : goal.overflow_add-cid_end
+overflow_add-cid_end c = omega (arith, (sixth c.before).within)
+
+pub last_rights-requires : goal.last_rights-requires
+last_rights-requires c = (sixth c.before).within

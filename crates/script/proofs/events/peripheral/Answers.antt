@@ -79,3 +79,18 @@ returns c =
       there (second p) operation_of c.operation_at.ensures c.in-Of.is,
       e.1,
     )
+
+pub overflow_add-end : goal.overflow_add-end
+overflow_add-end c = omega (arith, (second c.before).within)
+
+pub operation_at-requires : goal.operation_at-requires
+operation_at-requires c = (second c.before).within
+
+pub overflow_add-end-2 : goal.overflow_add-end-2
+overflow_add-end-2 c = omega (arith, (third c.before).within)
+
+pub overflow_add-end-3 : goal.overflow_add-end-3
+overflow_add-end-3 c = omega (arith, (third c.before).within)
+
+pub last_rights-requires : goal.last_rights-requires
+last_rights-requires c = (third c.before).within

@@ -17,3 +17,6 @@ pub returns : goal.returns
 returns c =
     let l = c.args.line.now in
     c.request.ensures ∙ sym (c.block_at.ensures.0 ∙ ap (λ (f : BlockField). block_line f l) c.in-Is.is)
+
+pub block_at-requires : goal.block_at-requires
+block_at-requires c = c.requires

@@ -111,3 +111,24 @@ returns c =
       there (third w) hex_of c.hex_at-2.ensures c.in-Value-hex_at.is,
       e.1,
     )
+
+pub hex_at-requires : goal.hex_at-requires
+hex_at-requires c = c.requires
+
+pub overflow_add-second : goal.overflow_add-second
+overflow_add-second c = omega (arith, (second c.before).within)
+
+pub either_at-requires : goal.either_at-requires
+either_at-requires c = ((second c.before).within, lit< tt, lit< tt)
+
+pub overflow_add-third : goal.overflow_add-third
+overflow_add-third c = omega (arith, (third c.before).within)
+
+pub hex_at-requires-2 : goal.hex_at-requires-2
+hex_at-requires-2 c = (third c.before).within
+
+pub overflow_add-third-2 : goal.overflow_add-third-2
+overflow_add-third-2 c = omega (arith, (fourth c.before).within)
+
+pub last_rights-requires : goal.last_rights-requires
+last_rights-requires c = (fourth c.before).within

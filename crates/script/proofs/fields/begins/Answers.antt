@@ -45,3 +45,12 @@ returns c =
     let l = c.loop-i in
     let a = c.args in
     sym (sym l.invariant.2 ∙ begins-all a.line.now a.from a.keyword.now l.invariant.1 l.i c.loop-i-test.false)
+
+pub four-requires : goal.four-requires
+four-requires c = omega (arith, c.requires.1, c.if-line-from.false)
+
+pub four-requires-2 : goal.four-requires-2
+four-requires-2 c = omega (arith, c.requires.1)
+
+pub overflow_add-from-in-loop-i : goal.overflow_add-from-in-loop-i
+overflow_add-from-in-loop-i c = omega (arith, c.loop-i.invariant.1, c.loop-i-test.true)

@@ -92,3 +92,27 @@ pub returns : goal.returns
 returns c =
     let l = c.loop-i in
     decimal-end _ l.n l.i c.loop-i-test.false l.invariant.1 ∙ l.invariant.2
+
+pub overflow_sub-n : goal.overflow_sub-n
+overflow_sub-n c = omega (arith, first-bounds c)
+
+pub overflow_cast-n : goal.overflow_cast-n
+overflow_cast-n c = omega (arith, first-bounds c)
+
+pub overflow_cast-result : goal.overflow_cast-result
+overflow_cast-result c = omega (arith, c.loop-i.invariant.1)
+
+pub overflow_mul-n : goal.overflow_mul-n
+overflow_mul-n c = omega (arith, c.loop-i.invariant.1)
+
+pub overflow_sub-n-in-loop-i : goal.overflow_sub-n-in-loop-i
+overflow_sub-n-in-loop-i c = omega (arith, bounds c)
+
+pub overflow_cast-n-in-loop-i : goal.overflow_cast-n-in-loop-i
+overflow_cast-n-in-loop-i c = omega (arith, bounds c)
+
+pub overflow_add-n : goal.overflow_add-n
+overflow_add-n c = omega (arith, bounds c, c.loop-i.invariant.1)
+
+pub overflow_cast-result-2 : goal.overflow_cast-result-2
+overflow_cast-result-2 c = omega (arith, c.loop-i.invariant.1)

@@ -40,3 +40,6 @@ returns-then-b-this c = rw c.if-b-this.true at (either-byte _ _ _ ∙ byte c.bef
 
 pub returns-else-b-this : goal.returns-else-b-this
 returns-else-b-this c = rw c.if-b-this.false at (either-byte _ _ _ ∙ byte c.before.before)
+
+pub bounds-line-from : goal.bounds-line-from
+bounds-line-from c = omega (arith, within c.before)

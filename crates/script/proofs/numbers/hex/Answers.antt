@@ -48,3 +48,30 @@ paired c = bit_and (digits_in (text c) + digits_in (text c) / 2 ^ 4) lower_bytes
 
 paired-most : (c : goal.After-four-2) → paired c ≤ lower_bytes
 paired-most c = and_le_r (digits_in (text c) + digits_in (text c) / 2 ^ 4) lower_bytes
+
+pub overflow_mul-digits-2 : goal.overflow_mul-digits-2
+overflow_mul-digits-2 c = omega (arith, and_le_r (text c) (64 * each))
+
+pub overflow_add-digits : goal.overflow_add-digits
+overflow_add-digits c = omega (arith, digits-most (text c))
+
+pub overflow_add-tens : goal.overflow_add-tens
+overflow_add-tens c = omega (arith, digits-most (text c.before))
+
+pub overflow_add-digits-2 : goal.overflow_add-digits-2
+overflow_add-digits-2 c = omega (arith, digits-most (text c.before))
+
+pub overflow_mul-tens-3 : goal.overflow_mul-tens-3
+overflow_mul-tens-3 c = omega (arith, shown-most (text c.before))
+
+pub overflow_add-digits-3 : goal.overflow_add-digits-3
+overflow_add-digits-3 c = omega (arith, digits-most (text c.before), shown-most (text c.before))
+
+pub overflow_add-pairs : goal.overflow_add-pairs
+overflow_add-pairs c = omega (arith, digits-most (text c.before.before))
+
+pub overflow_add-fours : goal.overflow_add-fours
+overflow_add-fours c = omega (arith, paired-most c.before.before)
+
+pub overflow_add-result : goal.overflow_add-result
+overflow_add-result c = omega (arith, and_le_r (paired c.before.before + paired c.before.before / 2 ^ 8) lower_pairs)

@@ -51,3 +51,6 @@ pub returns-in_default : goal.returns-in_default
 returns-in_default c =
     let k = c.in_default.in_default-own.rest in
     other_byte _ k.0.0.1 k.0.1 k.1 ∙ byte c.before.before
+
+pub bounds-line-from : goal.bounds-line-from
+bounds-line-from c = omega (arith, within c.before)

@@ -31,21 +31,21 @@ unfolding accessed answer_of checks_of answered_with reached_with
 returns-then-not-q-row c =
     let q = c.args.q in
     let r = c.args.row in
-    simp (c.left-then-not-q-row.ensures, not-false q.write c.if-not-q.false, eq-eqb (q.offset % 4) 0 c.if-q-ne0.false, not-false r.known c.if-not-row.false, not-true (q.privileged && (q.secure || not r.secure)) c.if-not-q-row.true)
+    simp (c.left-then-not-q-row.ensures, not-false q.write c.if-not-q.false, eq-eqb (q.offset % 4) 0 c.if-q-ne0.false, not-false r.known c.if-not-row.false, c.if-not-q-row.true)
 
 pub returns-then-not-row-2 : goal.returns-then-not-row-2
 unfolding accessed answer_of checks_of answered_with reached_with
 returns-then-not-row-2 c =
     let q = c.args.q in
     let r = c.args.row in
-    simp (c.left-then-not-row-2.ensures, not-false q.write c.if-not-q.false, eq-eqb (q.offset % 4) 0 c.if-q-ne0.false, not-false r.known c.if-not-row.false, not-false (q.privileged && (q.secure || not r.secure)) c.if-not-q-row.false, not-true r.writable c.if-not-row-2.true)
+    simp (c.left-then-not-row-2.ensures, not-false q.write c.if-not-q.false, eq-eqb (q.offset % 4) 0 c.if-q-ne0.false, not-false r.known c.if-not-row.false, c.if-not-q-row.false, not-true r.writable c.if-not-row-2.true)
 
 pub returns-then-self : goal.returns-then-self
 unfolding accessed answer_of checks_of answered_with reached_with
 returns-then-self c =
     let q = c.args.q in
     let r = c.args.row in
-    simp (c.left-then-self.ensures, not-false q.write c.if-not-q.false, eq-eqb (q.offset % 4) 0 c.if-q-ne0.false, not-false r.known c.if-not-row.false, not-false (q.privileged && (q.secure || not r.secure)) c.if-not-q-row.false, not-false r.writable c.if-not-row-2.false, c.if-self.true)
+    simp (c.left-then-self.ensures, not-false q.write c.if-not-q.false, eq-eqb (q.offset % 4) 0 c.if-q-ne0.false, not-false r.known c.if-not-row.false, c.if-not-q-row.false, not-false r.writable c.if-not-row-2.false, c.if-self.true)
 
 pub returns : goal.returns
 returns c =
@@ -54,5 +54,5 @@ returns c =
     let r = a.row in
     c.left-2.ensures
     ∙ write-left a.reg r a.self q (not-false q.write c.if-not-q.false) (eq-eqb (q.offset % 4) 0 c.if-q-ne0.false)
-    (not-false r.known c.if-not-row.false) (not-false (q.privileged && (q.secure || not r.secure)) c.if-not-q-row.false)
+    (not-false r.known c.if-not-row.false) (c.if-not-q-row.false)
     (not-false r.writable c.if-not-row-2.false) c.if-self.false (c.merge.ensures ∙ rw c.taken-taken.ensures)

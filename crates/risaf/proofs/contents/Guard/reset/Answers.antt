@@ -35,3 +35,6 @@ returns c =
     ap (λ (w : List ℕ). record { cr = 0; iasr = 0; iaesr = 0; iaddr = 0; regions = w })
     (c.loop-i.invariant.1 ∙ ap₂ reset_to c.low_bits-end.ensures e)
     ∙ reset-all c.args.granule
+
+pub bounds-regions-i : goal.bounds-regions-i
+bounds-regions-i c = omega arith
