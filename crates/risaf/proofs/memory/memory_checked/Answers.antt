@@ -8,31 +8,31 @@ use Rattle.risaf.proofs.MemoryAnswer.{no-guard, no-cid, no-width, misaligned, pl
 use Rattle.risaf.proofs.memory.memory_checked.Goals as goal
 
 pub returns-then-not-there : goal.returns-then-not-there
-returns-then-not-there c = let a = c.args in no-guard a.there a.shape a.o a.width a.k (not-true a.there c.if-not-there.true)
+returns-then-not-there c = let a = c.args in no-guard a.there a.shape a.o a.width a.k c.if-not-there.true
 
 pub returns-then-k : goal.returns-then-k
 returns-then-k c =
     let a = c.args in
-    no-cid a.there a.shape a.o a.width a.k (not-false a.there c.if-not-there.false) (lt-leb _ _ c.if-k.true)
+    no-cid a.there a.shape a.o a.width a.k c.if-not-there.false (lt-leb _ _ c.if-k.true)
 
 -- ---- four bytes or more
 pub returns-then-width-ne-WORD : goal.returns-then-width-ne-WORD
 returns-then-width-ne-WORD c =
     let a = c.args in
-    no-width a.there a.shape a.o a.width a.k (not-false a.there c.if-not-there.false) (le-leb _ _ c.if-k.false)
+    no-width a.there a.shape a.o a.width a.k c.if-not-there.false (le-leb _ _ c.if-k.false)
     (wide-width a.width c.if-width-ge-WORD.true ∙ ne_eqb _ _ c.if-width-ne-WORD.true)
 
 pub returns-then-o-ne0 : goal.returns-then-o-ne0
 returns-then-o-ne0 c =
     let a = c.args in
-    misaligned a.there a.shape a.o a.width a.k (not-false a.there c.if-not-there.false) (le-leb _ _ c.if-k.false)
+    misaligned a.there a.shape a.o a.width a.k c.if-not-there.false (le-leb _ _ c.if-k.false)
     (wide-width a.width c.if-width-ge-WORD.true ∙ eq-eqb _ _ c.if-width-ne-WORD.false)
     (ap (λ (w : ℕ). eqb (a.o % w) 0) c.if-width-ne-WORD.false ∙ ne_eqb _ _ c.if-o-ne0.true)
 
 pub returns-then-width-ge-WORD : goal.returns-then-width-ge-WORD
 returns-then-width-ge-WORD c =
     let a = c.args in
-    placed-is a.there a.shape a.o a.width a.k (not-false a.there c.if-not-there.false) (le-leb _ _ c.if-k.false)
+    placed-is a.there a.shape a.o a.width a.k c.if-not-there.false (le-leb _ _ c.if-k.false)
     (wide-width a.width c.if-width-ge-WORD.true ∙ eq-eqb _ _ c.if-width-ne-WORD.false)
     (ap (λ (w : ℕ). eqb (a.o % w) 0) c.if-width-ne-WORD.false ∙ eq-eqb _ _ c.if-o-ne0.false) c.placed.ensures
 
@@ -41,7 +41,7 @@ pub returns-then-not-is_width : goal.returns-then-not-is_width
 returns-then-not-is_width c =
     let w = c.is_width in
     let a = c.args in
-    no-width a.there a.shape a.o a.width a.k (not-false a.there c.if-not-there.false) (le-leb _ _ c.if-k.false)
+    no-width a.there a.shape a.o a.width a.k c.if-not-there.false (le-leb _ _ c.if-k.false)
     (sym w.ensures ∙ c.if-not-is_width.true)
 
 pub returns-then-not-aligned : goal.returns-then-not-aligned
@@ -50,7 +50,7 @@ returns-then-not-aligned c =
     let w = c.is_width in
     let a = c.args in
     let ew = sym w.ensures ∙ c.if-not-is_width.false in
-    misaligned a.there a.shape a.o a.width a.k (not-false a.there c.if-not-there.false) (le-leb _ _ c.if-k.false) ew
+    misaligned a.there a.shape a.o a.width a.k c.if-not-there.false (le-leb _ _ c.if-k.false) ew
     (sym (l.ensures ew) ∙ c.if-not-aligned.true)
 
 pub returns : goal.returns
@@ -59,5 +59,5 @@ returns c =
     let w = c.is_width in
     let a = c.args in
     let ew = sym w.ensures ∙ c.if-not-is_width.false in
-    placed-is a.there a.shape a.o a.width a.k (not-false a.there c.if-not-there.false) (le-leb _ _ c.if-k.false) ew
+    placed-is a.there a.shape a.o a.width a.k c.if-not-there.false (le-leb _ _ c.if-k.false) ew
     (sym (l.ensures ew) ∙ c.if-not-aligned.false) c.placed-2.ensures

@@ -29,8 +29,7 @@ returns-in-32-to-47 c = region-b _ _ (omega arith) (omega arith) c.sub_register-
 
 pub returns-in_default : goal.returns-in_default
 returns-in_default c =
-    let r = c.in_default-1.rest in
-    region-low _ _ r.0.0.0.1 r.0.0.1 r.0.1 r.1 (omega arith)
+    region-low _ _ (omega arith) (omega arith) (omega arith) (omega arith) (omega arith)
 
 pub returns-in_default-2 : goal.returns-in_default-2
 returns-in_default-2 c = region-high _ _ (omega arith)

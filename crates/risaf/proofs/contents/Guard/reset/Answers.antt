@@ -9,15 +9,7 @@ use Rattle.regions.specs.Words.{subregion_words, end_at}
 use Rattle.risaf.specs.Contents.{regions_words, reset}
 use Rattle.risaf.specs.Guards.{low_bits}
 use Rattle.risaf.proofs.contents.Guard.reset.Goals as goal
-
--- how many base regions and subregions there are
-abbrev count : ℕ
-count = regions_words / subregion_words
-
--- the first i of them reset, END to this
-abbrev reset_to : ℕ → ℕ → List ℕ
-reset_to end zero = replicate regions_words 0
-reset_to end (suc i) = set (reset_to end i) (subregion_words * i + end_at) end
+use Rattle.risaf.proofs.contents.Guard.reset.Invariants.{count, reset_to}
 
 reset-all : (granule : ℕ) → record { cr = 0; iasr = 0; iaesr = 0; iaddr = 0; regions = reset_to (low_bits granule) count } ≡ reset granule
 unfolding reset

@@ -10,6 +10,15 @@ use Rattle.risaf.specs.Contents.{regions_words, reset}
 use Rattle.risaf.specs.Guards.{low_bits}
 use Rattle.risaf.proofs.contents.Guard.reset.Given as goal
 
+-- how many base regions and subregions there are
+abbrev pub count : ℕ
+count = regions_words / subregion_words
+
+-- the first i of them reset, END to this
+abbrev pub reset_to : ℕ → ℕ → List ℕ
+reset_to end zero = replicate regions_words 0
+reset_to end (suc i) = set (reset_to end i) (subregion_words * i + end_at) end
+
 abbrev pub invariant-loop-i : goal.invariant-loop-i
 invariant-loop-i l = (l.i ≤ count) × (l.regions ≡ reset_to l.end l.i)
 

@@ -8,37 +8,27 @@ use Rattle.risaf.specs.Memory.{recorded_fault}
 use Rattle.risaf.specs.Rows.{of_head}
 use Rattle.risaf.proofs.memory.Faults.recorded.Goals as goal
 
--- the flags of the kind of asking are digits
-privileged : (c : goal.Start) → bool_byte c.args.k.privileged ≤ 1
-privileged c = byte-most c.args.k.privileged
-
-secure : (c : goal.Start) → bool_byte c.args.k.secure ≤ 1
-secure c = byte-most c.args.k.secure
-
-write : (c : goal.Start) → bool_byte c.args.k.write ≤ 1
-write c = byte-most c.args.k.write
-
 pub returns-then-self-eq1 : goal.returns-then-self-eq1
 unfolding recorded_fault
 returns-then-self-eq1 c = simp (c.if-self-eq1.true, c.with_bit-iasr.ensures)
 
 pub overflow_mul-kind : goal.overflow_mul-kind
-overflow_mul-kind c = omega (arith, privileged c.before.before.before.before.before)
+overflow_mul-kind c = omega (arith, byte-most c.args.k.privileged)
 
 pub overflow_add-kind : goal.overflow_add-kind
-overflow_add-kind c = omega (arith, privileged c.before.before.before.before.before)
+overflow_add-kind c = omega (arith, byte-most c.args.k.privileged)
 
 pub overflow_mul-kind-2 : goal.overflow_mul-kind-2
-overflow_mul-kind-2 c = omega (arith, secure c.before.before.before.before.before.before)
+overflow_mul-kind-2 c = omega (arith, byte-most c.args.k.secure)
 
 pub overflow_add-kind-2 : goal.overflow_add-kind-2
-overflow_add-kind-2 c = omega (arith, privileged c.before.before.before.before.before.before, secure c.before.before.before.before.before.before)
+overflow_add-kind-2 c = omega (arith, byte-most c.args.k.privileged, byte-most c.args.k.secure)
 
 pub overflow_mul-kind-3 : goal.overflow_mul-kind-3
-overflow_mul-kind-3 c = omega (arith, write c.before.before.before.before.before.before.before)
+overflow_mul-kind-3 c = omega (arith, byte-most c.args.k.write)
 
 pub overflow_add-kind-3 : goal.overflow_add-kind-3
-overflow_add-kind-3 c = omega (arith, privileged c.before.before.before.before.before.before.before, secure c.before.before.before.before.before.before.before, write c.before.before.before.before.before.before.before)
+overflow_add-kind-3 c = omega (arith, byte-most c.args.k.privileged, byte-most c.args.k.secure, byte-most c.args.k.write)
 
 pub returns : goal.returns
 unfolding recorded_fault of_head
@@ -52,10 +42,3 @@ returns c =
       c.merge-iaesr.ensures,
       c.with_bit-iasr.ensures,
     )
-
-pub recorded-spec : {M : Type 1} → statement M
-
-recorded-spec =
-    tie.close
-    (tie.spec (λ c κs. search rules) returns (λ c. search rules) mul-kind add-kind (λ c. search rules) mul-kind-2
-    add-kind-2 (λ c. search rules) mul-kind-3 add-kind-3 (λ c κs. search rules) returns-2)

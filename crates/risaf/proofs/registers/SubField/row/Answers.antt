@@ -4,7 +4,7 @@ use Rattle.risaf.proofs.registers.SubField.row.Goals as goal
 
 pub returns-in-SubCfgr : goal.returns-in-SubCfgr
 unfolding of_sub
-returns-in-SubCfgr c = simp (c.sub-Row.ensures, c.in-SubCfgr.is)
+returns-in-SubCfgr c = simp (c.sub_row.ensures, c.in-SubCfgr.is)
 
 pub returns-in-SubStart : goal.returns-in-SubStart
 unfolding of_sub

@@ -15,18 +15,18 @@ unfolding read_reached
 returns-then-not-self-q c =
     let s = c.args.self in
     let q = c.args.q in
-    simp (not-false s.known c.if-not-self.false, not-true (not s.guarded || q.secure && q.privileged) c.if-not-self-q.true)
+    simp (not-false s.known c.if-not-self.false, c.if-not-self-q.true)
 
 pub returns-then-not-self-2 : goal.returns-then-not-self-2
 unfolding read_reached
 returns-then-not-self-2 c =
     let s = c.args.self in
     let q = c.args.q in
-    simp (not-false s.known c.if-not-self.false, not-false (not s.guarded || q.secure && q.privileged) c.if-not-self-q.false, not-true s.readable c.if-not-self-2.true)
+    simp (not-false s.known c.if-not-self.false, c.if-not-self-q.false, not-true s.readable c.if-not-self-2.true)
 
 pub returns : goal.returns
 unfolding read_reached read_of
 returns c =
     let s = c.args.self in
     let q = c.args.q in
-    simp (not-false s.known c.if-not-self.false, not-false (not s.guarded || q.secure && q.privileged) c.if-not-self-q.false, not-false s.readable c.if-not-self-2.false, c.masked.ensures, c.word_in.ensures)
+    simp (not-false s.known c.if-not-self.false, c.if-not-self-q.false, not-false s.readable c.if-not-self-2.false, c.masked.ensures, c.word_in.ensures)
