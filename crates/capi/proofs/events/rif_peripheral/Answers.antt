@@ -8,7 +8,7 @@ use Rattle.capi.proofs.events.rif_peripheral.Goals as goal
 pub returns-in_default : goal.returns-in_default
 unfolding peripheral_asked asked_state
 returns-in_default c =
-    rw (sym c.operation-numbered.ensures ∙ c.enum_told.given.1) (record { answer = c.nothing.ensures; next = refl })
+    rw (sym c.operation_numbered.ensures ∙ c.in_default.is) (record { answer = c.nothing.ensures; next = refl })
 
 pub returns : goal.returns
 unfolding peripheral_asked asked_answer asked_state

@@ -8,7 +8,7 @@ use Rattle.capi.proofs.events.rif_register.Goals as goal
 pub returns-in_default : goal.returns-in_default
 unfolding register_asked asked_state
 returns-in_default c =
-    rw (sym c.block-numbered.ensures ∙ c.enum_told.given.1) (record { answer = c.nothing.ensures; next = refl })
+    rw (sym c.block_numbered.ensures ∙ c.in_default.is) (record { answer = c.nothing.ensures; next = refl })
 
 pub returns : goal.returns
 unfolding register_asked asked_answer asked_state

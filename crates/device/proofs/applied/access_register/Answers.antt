@@ -16,17 +16,17 @@ by-block q s e r = rw e r
 pub returns-in-Rifsc : goal.returns-in-Rifsc
 returns-in-Rifsc c =
     let a = c.args in
-    let all = by-block a.a.request (state_of a.state.now) c.in-Rifsc.is c.access_rifsc.ensures in
+    let all = by-block a.a.request (state_of a.state.now) c.in-Rifsc.is (c.access_rifsc.ensures.answer, c.access_rifsc.ensures.next) in
     record { answer = all.0; next = all.1 }
 
 pub returns-in-Iac : goal.returns-in-Iac
 returns-in-Iac c =
     let a = c.args in
-    let all = by-block a.a.request (state_of a.state.now) c.in-Iac.is c.access_iac.ensures in
+    let all = by-block a.a.request (state_of a.state.now) c.in-Iac.is (c.access_iac.ensures.answer, c.access_iac.ensures.next) in
     record { answer = all.0; next = all.1 }
 
 pub returns-in-Risaf : goal.returns-in-Risaf
 returns-in-Risaf c =
     let a = c.args in
-    let all = by-block a.a.request (state_of a.state.now) c.in-Risaf.is c.access_guard.ensures in
+    let all = by-block a.a.request (state_of a.state.now) c.in-Risaf.is (c.access_guard.ensures.answer, c.access_guard.ensures.next) in
     record { answer = all.0; next = all.1 }

@@ -15,29 +15,29 @@ by-event m q r = rw q r
 pub returns-in-Reset : goal.returns-in-Reset
 returns-in-Reset c =
     let m = c.args.state.now in
-    let all = by-event m c.in-Reset.is c.apply_reset.ensures in
+    let all = by-event m c.in-Reset.is (c.apply_reset.ensures.answer, c.apply_reset.ensures.next) in
     record { answer = all.0; next = all.1 }
 
 pub returns-in-Register : goal.returns-in-Register
 returns-in-Register c =
     let m = c.args.state.now in
-    let all = by-event m c.in-Register.is c.apply_register.ensures in
+    let all = by-event m c.in-Register.is (c.apply_register.ensures.answer, c.apply_register.ensures.next) in
     record { answer = all.0; next = all.1 }
 
 pub returns-in-Peripheral : goal.returns-in-Peripheral
 returns-in-Peripheral c =
     let m = c.args.state.now in
-    let all = by-event m c.in-Peripheral.is c.apply_peripheral.ensures in
+    let all = by-event m c.in-Peripheral.is (c.apply_peripheral.ensures.answer, c.apply_peripheral.ensures.next) in
     record { answer = all.0; next = all.1 }
 
 pub returns-in-Memory : goal.returns-in-Memory
 returns-in-Memory c =
     let m = c.args.state.now in
-    let all = by-event m c.in-Memory.is c.apply_memory.ensures in
+    let all = by-event m c.in-Memory.is (c.apply_memory.ensures.answer, c.apply_memory.ensures.next) in
     record { answer = all.0; next = all.1 }
 
 pub returns-in-Master : goal.returns-in-Master
 returns-in-Master c =
     let m = c.args.state.now in
-    let all = by-event m c.in-Master.is c.apply_master.ensures in
+    let all = by-event m c.in-Master.is (c.apply_master.ensures.answer, c.apply_master.ensures.next) in
     record { answer = all.0; next = all.1 }

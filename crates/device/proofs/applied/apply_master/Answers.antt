@@ -18,5 +18,5 @@ returns c =
     let k = c.carried-kind.ensures in
     let l = c.load_attributes.ensures in
     let x = c.exists.ensures in
-    let all = own-length (Master a.a) a.state.now c.if-state-ne-STATE_WORDS.false u.auto.0 (u.ensures.answer ∙ rw (k, l, x)) (u.ensures.next ∙ rw (k, l, x)) in
+    let all = own-length (Master a.a) a.state.now c.if-state-ne-STATE_WORDS.false u.auto.state (u.ensures.answer ∙ rw (k, l, x)) (u.ensures.next ∙ rw (k, l, x)) in
     record { answer = all.0; next = all.1 }

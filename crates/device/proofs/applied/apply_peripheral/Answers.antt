@@ -14,5 +14,5 @@ unfolding step
 returns c =
     let a = c.args in
     let u = c.access_peripheral in
-    let all = own-length (Peripheral a.a) a.state.now c.if-state-ne-STATE_WORDS.false u.auto.0 u.ensures.answer u.ensures.next in
+    let all = own-length (Peripheral a.a) a.state.now c.if-state-ne-STATE_WORDS.false u.auto.state u.ensures.answer u.ensures.next in
     record { answer = all.0; next = all.1 }

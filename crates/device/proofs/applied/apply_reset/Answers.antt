@@ -14,5 +14,5 @@ pub returns : goal.returns
 unfolding step
 returns c =
     let u = c.reset in
-    let all = own-length Reset c.args.state.now c.if-state-ne-STATE_WORDS.false u.auto.0 refl u.ensures in
+    let all = own-length Reset c.args.state.now c.if-state-ne-STATE_WORDS.false u.auto.state refl u.ensures in
     record { answer = all.0; next = all.1 }

@@ -24,12 +24,12 @@ returns-then-not-bit_of c =
     let m = a.state.now in
     let s = state_of m in
     let x = a.flag.0 / 32 in
-    let v = c.with-bit.result in
-    let ei : c.word_in.result ≡ get_or s.iac.isr x 0 = simp (c.word_in.ensures, head-part m isr_part (lit< tt)) in
-    let ee : c.bit_of-enabled.result ≡ bit (get_or (state_of c.store_in.new.0).iac.ier x 0) (a.flag.0 % 32) =
-    simp (c.bit_of-enabled.ensures, c.word_in.ensures, head-part c.store_in.new.0 ier_part (lit< tt)) in
-    flag-raised s a.flag ei (sym c.is-flag.ensures ∙ c.if1.true) (state-sized m h)
-    (sym c.bit-of.ensures ∙ not-true _ c.if2.true) c.with-bit.ensures
+    let v = c.with_bit.result in
+    let ei : c.word_in-isr.result ≡ get_or s.iac.isr x 0 = simp (c.word_in-isr.ensures, head-part m isr_part (lit< tt)) in
+    let ee : c.bit_of-enabled.result ≡ bit (get_or (state_of c.store_in.new.state).iac.ier x 0) (a.flag.0 % 32) =
+    simp (c.bit_of-enabled.ensures, c.word_in.ensures, head-part c.store_in.new.state ier_part (lit< tt)) in
+    flag-raised s a.flag ei (sym c.is_flag.ensures ∙ c.if-is_flag.true) (state-sized m h)
+    (sym c.bit_of.ensures ∙ c.if-not-bit_of.true) c.with_bit.ensures
     (isr-stored x v (heads-set isr_part x v h (lit< tt) c.store_in.ensures)) ee c.recount.ensures
 
 pub returns-else-not-bit_of : goal.returns-else-not-bit_of
@@ -38,8 +38,8 @@ returns-else-not-bit_of c =
     let a = c.args in
     let m = a.state.now in
     let ei : c.word_in-isr.result ≡ get_or (state_of m).iac.isr (a.flag.0 / 32) 0 = simp (c.word_in-isr.ensures, head-part m isr_part (lit< tt)) in
-    flag-left (state_of m) a.flag ei (sym c.is-flag.ensures ∙ c.if1.true) c.word_in-isr.type-inv
-    (sym c.bit_of.ensures ∙ not-false _ c.if-not-bit_of.false)
+    flag-left (state_of m) a.flag ei (sym c.is_flag.ensures ∙ c.if-is_flag.true) c.word_in-isr.type_inv
+    (sym c.bit_of.ensures ∙ c.if-not-bit_of.false)
 
 pub returns-else-is_flag : goal.returns-else-is_flag
 returns-else-is_flag c =

@@ -7,11 +7,11 @@ use Rattle.device.proofs.layout.region_words.Goals as goal
 
 pub returns-then-state-ne-STATE_WORDS : goal.returns-then-state-ne-STATE_WORDS
 unfolding regions_in
-returns-then-state-ne-STATE_WORDS c = simp (ne_eqb _ _ c.if1.true)
+returns-then-state-ne-STATE_WORDS c = simp (ne_eqb _ _ c.if-state-ne-STATE_WORDS.true)
 
 pub returns-then-place-ge-GUARD_COUNT : goal.returns-then-place-ge-GUARD_COUNT
 unfolding regions_in
-returns-then-place-ge-GUARD_COUNT c = simp (eq-eqb _ _ c.if1.false, le-ltb _ _ c.if2.true)
+returns-then-place-ge-GUARD_COUNT c = simp (eq-eqb _ _ c.if-state-ne-STATE_WORDS.false, le-ltb _ _ c.if-place-ge-GUARD_COUNT.true)
 
 pub returns : goal.returns
 unfolding regions_in

@@ -24,10 +24,10 @@ pub returns-then-grants : goal.returns-then-grants
 returns-then-grants c =
     let g = c.grants in
     let l = c.load_filter in
-    let f = c.is-fetch in
+    let f = c.is_fetch in
     let x = c.exists in
     let a = c.args in
-    let all = peripheral-granted a.a (state_of a.state.now) (sym x.ensures ∙ c.if1.false) (sym f.ensures ∙ c.if2.false)
+    let all = peripheral-granted a.a (state_of a.state.now) (sym x.ensures ∙ c.if-not-exists.false) (sym f.ensures ∙ c.if-is_fetch.false)
     (rw (← l.ensures) (sym g.ensures ∙ c.if-grants.true)) in
     record { answer = all.0; next = all.1 }
 
@@ -35,9 +35,9 @@ pub returns : goal.returns
 returns c =
     let g = c.grants in
     let l = c.load_filter in
-    let f = c.is-fetch in
+    let f = c.is_fetch in
     let x = c.exists in
     let a = c.args in
-    let all = peripheral-refused a.a (state_of a.state.now) (sym x.ensures ∙ c.if1.false) (sym f.ensures ∙ c.if2.false)
+    let all = peripheral-refused a.a (state_of a.state.now) (sym x.ensures ∙ c.if-not-exists.false) (sym f.ensures ∙ c.if-is_fetch.false)
     (rw (← l.ensures) (sym g.ensures ∙ c.if-grants.false)) c.raise.ensures in
     record { answer = all.0; next = all.1 }

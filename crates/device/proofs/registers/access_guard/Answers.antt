@@ -41,15 +41,15 @@ returns-then-not-row c =
 
 pub load_port-requires : goal.load_port-requires
 load_port-requires c =
-    (c.requires, rw c.shape.ensures (place-lt _))
+    (c.requires, rw c.shape-shape.ensures (place-lt _))
 
 pub store_word-requires : goal.store_word-requires
 store_word-requires c =
-    (c.requires, rw c.shape.ensures (place-lt _), rw c.row_at.ensures (place-fits _ _))
+    (c.requires, rw c.shape-shape.ensures (place-lt _), rw c.row_at-row.ensures (place-fits _ _))
 
 pub store_word-requires-in-Refused : goal.store_word-requires-in-Refused
 store_word-requires-in-Refused c =
-    (c.requires, rw c.shape.ensures (place-lt _), lit< tt)
+    (c.requires, rw c.shape-shape.ensures (place-lt _), lit< tt)
 
 pub raise-requires : goal.raise-requires
 raise-requires c =
@@ -62,11 +62,11 @@ pub returns-in-Done : goal.returns-in-Done
 returns-in-Done c =
     let a = c.args in
     let t = state_of a.state.now in
-    let es = c.shape.ensures in
-    let er = c.row_at.ensures in
+    let es = c.shape-shape.ensures in
+    let er = c.row_at-row.ensures in
     let ep = c.load_port.ensures in
     let ea = c.access-accessed.ensures in
-    record { answer = register-answer t a.guard a.q es er ep ea; next = register-written t a.guard a.q es er ep ea c.in-Done.is (not-false a.q.write c.if1.false) c.Store-word.ensures }
+    record { answer = register-answer t a.guard a.q es er ep ea; next = register-written t a.guard a.q es er ep ea c.in-Done.is (not-false a.q.write c.if-not-q.false) c.store_word.ensures }
 
 pub returns-in-Refused : goal.returns-in-Refused
 returns-in-Refused c =
@@ -82,8 +82,8 @@ pub returns-in-Rejected : goal.returns-in-Rejected
 returns-in-Rejected c =
     let a = c.args in
     let t = state_of a.state.now in
-    let es = c.shape.ensures in
-    let er = c.row_at.ensures in
+    let es = c.shape-shape.ensures in
+    let er = c.row_at-row.ensures in
     let ep = c.load_port.ensures in
     let ea = c.access-accessed.ensures in
     record { answer = register-answer t a.guard a.q es er ep ea; next = register-rejected t a.guard a.q es er ep ea c.in-Rejected.is }

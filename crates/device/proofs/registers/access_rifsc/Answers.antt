@@ -13,7 +13,7 @@ returns-then-q-ne0 c =
 
 pub read_rifsc-requires : goal.read_rifsc-requires
 read_rifsc-requires c =
-    (c.requires, not-true c.args.q.write c.if2.true)
+    (c.requires, not-true c.args.q.write c.if-not-q.true)
 
 pub returns-then-not-q : goal.returns-then-not-q
 returns-then-not-q c =
@@ -22,20 +22,20 @@ returns-then-not-q c =
 pub returns-in-Done : goal.returns-in-Done
 returns-in-Done c =
     let a = c.args in
-    let all = controller-written (state_of a.state.now) a.q c.register-at.ensures c.row.ensures c.load_seen.ensures c.access-accessed.ensures
-    c.in-Done.is (not-false a.q.write c.if2.false) c.store_register.ensures in
+    let all = controller-written (state_of a.state.now) a.q c.register_at-reg.ensures c.row-row.ensures c.load_seen.ensures c.access-accessed.ensures
+    c.in-Done.is (not-false a.q.write c.if-not-q.false) c.store_register.ensures in
     record { answer = all.0; next = all.1 }
 
 pub returns-in-Refused : goal.returns-in-Refused
 returns-in-Refused c =
     let a = c.args in
-    let all = controller-refused (state_of a.state.now) a.q c.register-at.ensures c.row.ensures c.load_seen.ensures c.access-accessed.ensures
+    let all = controller-refused (state_of a.state.now) a.q c.register_at-reg.ensures c.row-row.ensures c.load_seen.ensures c.access-accessed.ensures
     c.in-Refused.is c.raise.ensures in
     record { answer = all.0; next = all.1 }
 
 pub returns-in-Rejected : goal.returns-in-Rejected
 returns-in-Rejected c =
     let a = c.args in
-    let all = controller-rejected (state_of a.state.now) a.q c.register-at.ensures c.row.ensures c.load_seen.ensures c.access-accessed.ensures
+    let all = controller-rejected (state_of a.state.now) a.q c.register_at-reg.ensures c.row-row.ensures c.load_seen.ensures c.access-accessed.ensures
     c.in-Rejected.is in
     record { answer = all.0; next = all.1 }

@@ -12,14 +12,14 @@ pub loop-n-preserved : goal.loop-n-preserved
 loop-n-preserved c =
     let l = c.loop-n in
     let u = c.reset_guard in
-    let m = c.store_iac.new.0 in
-    (search rules, u.auto.0 ∙ l.invariant.1, u.ensures ∙ reset-more (state_of m) l.n l.invariant.2)
+    let m = c.store_iac.new.state in
+    (search rules, u.auto.state ∙ l.invariant.1, u.ensures ∙ reset-more (state_of m) l.n l.invariant.2)
 
 pub returns : goal.returns
 returns c =
     let l = c.loop-n in
     let e : l.n ≡ numbers = omega arith in
-    let m = c.store_iac.new.0 in
+    let m = c.store_iac.new.state in
     let s = state_of c.args.state.now in
     l.invariant.2 ∙ ap (λ (n : ℕ). with_guards (state_of m) (reset_below n (state_of m).guards)) e
     ∙ state-reset m s c.reset.ensures c.store_rifsc.ensures c.reset-2.ensures c.store_iac.ensures

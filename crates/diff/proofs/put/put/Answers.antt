@@ -24,7 +24,7 @@ bounds-lent-i c = search rules
 pub returns-then-continues : goal.returns-then-continues
 returns-then-continues c =
     let a = c.args in
-    let all = put-grows a.lent.now a.count a.start a.end a.old a.new c.if1.false (sym c.continues.ensures ∙ c.if-continues.true) in
+    let all = put-grows a.lent.now a.count a.start a.end a.old a.new c.if-old-new.false (sym c.continues.ensures ∙ c.if-continues.true) in
     record { value = all.0; lent_after = all.1 }
 
 pub bounds-lent-i-3 : goal.bounds-lent-i-3
@@ -43,5 +43,5 @@ pub returns : goal.returns
 returns c =
     let a = c.args in
     let all = rw c.differing.ensures
-    (put-adds a.lent.now a.count a.start a.end a.old a.new c.if1.false (sym c.continues.ensures ∙ c.if-continues.false)) in
+    (put-adds a.lent.now a.count a.start a.end a.old a.new c.if-old-new.false (sym c.continues.ensures ∙ c.if-continues.false)) in
     record { value = all.0; lent_after = all.1 }

@@ -7,12 +7,12 @@ use Rattle.map.specs.Part.{used_part}
 use Rattle.map.proofs.part.used_part.Goals as goal
 
 pub slice_bounds-result-end : goal.slice_bounds-result-end
-slice_bounds-result-end c = sym (length-take-le _ c.args.buffer.now c.if1.true)
+slice_bounds-result-end c = sym (length-take-le _ c.args.buffer.now c.if-used-buffer.true)
 
 pub returns-then-used-buffer : goal.returns-then-used-buffer
 unfolding used_part
-returns-then-used-buffer c = simp (le-leb _ _ c.if1.true)
+returns-then-used-buffer c = simp (le-leb _ _ c.if-used-buffer.true)
 
 pub returns : goal.returns
 unfolding used_part
-returns c = simp (lt-leb _ _ c.if1.false)
+returns c = simp (lt-leb _ _ c.if-used-buffer.false)

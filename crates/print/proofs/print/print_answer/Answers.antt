@@ -26,6 +26,5 @@ put_value-requires c =
 pub returns : goal.returns
 unfolding decimal_text answer_line
 returns c =
-    let all = rw (← c.width-count.ensures.0)
-    (whole (join (join c.put-a.ensures c.put_digits-b.ensures) c.put_value.ensures)) in
-    record { next = all.0; bytes = all.1 }
+    rw (← c.width-count.ensures.0)
+    (let all = (whole (join (join c.put-a.ensures c.put_digits-b.ensures) c.put_value.ensures)) in record { next = all.0; bytes = all.1 })

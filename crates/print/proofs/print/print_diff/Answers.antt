@@ -42,8 +42,7 @@ put_digits-requires c =
 pub returns : goal.returns
 unfolding decimal_text diff_line
 returns c =
-    let all = rw (← c.width-digits.ensures.0)
-    (whole
+    rw (← c.width-digits.ensures.0)
+    (let all = (whole
     (join (join (join c.put-a.ensures (join c.put_hex-b.ensures c.put_hex-c.ensures)) (join c.put_rights-d.ensures c.put_rights-e.ensures))
-    c.put_digits.ensures)) in
-    record { next = all.0; bytes = all.1 }
+    c.put_digits.ensures)) in record { next = all.0; bytes = all.1 })

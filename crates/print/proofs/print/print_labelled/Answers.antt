@@ -21,5 +21,5 @@ returns-then-out-at-2 c =
 pub returns : goal.returns
 unfolding decimal_text label_line
 returns c =
-    let all = rw (← c.width-count.ensures.0) (whole (join c.put-a.ensures c.put_digits.ensures)) in
-    record { next = all.0; bytes = all.1 }
+    rw (← c.width-count.ensures.0)
+    (let all = (whole (join c.put-a.ensures c.put_digits.ensures)) in record { next = all.0; bytes = all.1 })

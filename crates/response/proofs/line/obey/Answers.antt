@@ -6,8 +6,8 @@ use Rattle.response.proofs.line.obey.Goals as goal
 
 pub returns-in-Map : goal.returns-in-Map
 returns-in-Map c =
-    let all = map-line c.args.state.now c.args.number (command_of c.args.line.now) c.read-line.ensures _
-    c.command.given.1 c.put_map.ensures in
+    let all = map-line c.args.state.now c.args.number (command_of c.args.line.now) c.read_line-command.ensures _
+    c.in-Map.is c.put_map.ensures in
     record { wrote = all.0; state_after = all.1 }
 
 pub returns-in_default-command : goal.returns-in_default-command

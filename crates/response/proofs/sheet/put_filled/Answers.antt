@@ -11,14 +11,14 @@ returns-then-number-ne0 c =
 
 pub put_sheet-requires : goal.put_sheet-requires
 put_sheet-requires c =
-    let f = c.fill in (
+    let f = c.fill-filled in (
       c.requires.0,
-      made-few c.args.state.now c.args.lent.now c.args.guard.0 c.requires.1 f.ensures.0 c.number.ensures
-          c.if1.false f.ensures.1.1 f.ensures.1.0 c.used_part-map.ensures,
+      made-few c.args.state.now c.args.lent.now c.args.guard.0 c.requires.1 f.ensures.answer_value c.number.ensures
+          c.if-number-ne0.false f.ensures.used_value.1 f.ensures.used_value.0 c.used_part-map.ensures,
     )
 
 pub returns : goal.returns
 returns c =
-    let f = c.fill in
-    made-map c.args.state.now c.args.lent.now c.args.guard.0 c.requires.1 f.ensures.0 c.number.ensures
-    c.if1.false f.ensures.1.1 f.ensures.1.0 c.used_part-map.ensures c.put_sheet.ensures
+    let f = c.fill-filled in
+    made-map c.args.state.now c.args.lent.now c.args.guard.0 c.requires.1 f.ensures.answer_value c.number.ensures
+    c.if-number-ne0.false f.ensures.used_value.1 f.ensures.used_value.0 c.used_part-map.ensures c.put_sheet.ensures

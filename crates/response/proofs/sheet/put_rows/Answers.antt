@@ -24,7 +24,7 @@ put_row-p-requires c =
 pub loop-k-preserved : goal.loop-k-preserved
 loop-k-preserved c =
     let l = c.loop-k in
-    (one-row c.args.map.now l.k l.invariant.0 c.put_row-p.ensures, c.put_row-p.auto.0 ∙ l.invariant.1, omega (arith, c.loop-k-test.true))
+    (one-row c.args.map.now l.k l.invariant.0 c.put_row-p.ensures, c.put_row-p.auto.out ∙ l.invariant.1, omega (arith, c.loop-k-test.true))
 
 pub returns : goal.returns
 returns c =

@@ -17,33 +17,33 @@ pub returns-then-not-has_room : goal.returns-then-not-has_room
 returns-then-not-has_room c =
     let a = c.args in
     let k = kept_of a.held a.line.now a.state.now in
-    begun-full k a.block.now a.out.now a.at c.line-end.result c.requires.0 c.requires.1 c.line-end.ensures c.if1.false
+    begun-full k a.block.now a.out.now a.at c.line_end-end.result c.requires.0 c.requires.1 c.line_end-end.ensures c.if-end-block.false
     (sym c.has_room.ensures ∙ c.if-not-has_room.true) c.stopped-then-not-has_room.ensures
 
 pub slice_bounds-keep-end : goal.slice_bounds-keep-end
 slice_bounds-keep-end c =
     let block = c.args.block.now in
-    let end = c.line-end.result in
-    sym (length-take-le end block (end-within block 0 end c.line-end.ensures (omega arith)))
+    let end = c.line_end-end.result in
+    sym (length-take-le end block (end-within block 0 end c.line_end-end.ensures (omega arith)))
 
 pub slice_bounds-end_line-end : goal.slice_bounds-end_line-end
 slice_bounds-end_line-end c =
     let a = c.args in
     let k = kept_of a.held a.line.now a.state.now in
-    begun-fits k a.block.now a.out.now a.at c.line-end.result c.requires.0 c.requires.1 c.line-end.ensures c.if1.false c.keep-bytes-2.ensures.value c.keep-bytes-2.ensures.line_after
+    begun-fits k a.block.now a.out.now a.at c.line_end-end.result c.requires.0 c.requires.1 c.line_end-end.ensures c.if-end-block.false c.keep-bytes-2.ensures.value c.keep-bytes-2.ensures.line_after
 
 pub slice_bounds-end_line-end-2 : goal.slice_bounds-end_line-end-2
 slice_bounds-end_line-end-2 c =
     let a = c.args in
     let k = kept_of a.held a.line.now a.state.now in
-    sym (length-take-le c.keep2.result c.keep2.new.0
-    (begun-fits k a.block.now a.out.now a.at c.line-end.result c.requires.0 c.requires.1 c.line-end.ensures c.if1.false c.keep2.ensures.0 c.keep2.ensures.1))
+    sym (length-take-le c.keep-bytes-2.result c.keep-bytes-2.new.line
+    (begun-fits k a.block.now a.out.now a.at c.line_end-end.result c.requires.0 c.requires.1 c.line_end-end.ensures c.if-end-block.false c.keep-bytes-2.ensures.value c.keep-bytes-2.ensures.line_after))
 
 pub overflow_add-end : goal.overflow_add-end
 overflow_add-end c =
     let a = c.args in
     let k = kept_of a.held a.line.now a.state.now in
-    let within = more k a.block.now a.out.now a.at c.line-end.result c.requires.0 c.requires.1 c.line-end.ensures c.if1.false in
+    let within = more k a.block.now a.out.now a.at c.line_end-end.result c.requires.0 c.requires.1 c.line_end-end.ensures c.if-end-block.false in
     search (rules, within)
 
 pub returns-then-ended : goal.returns-then-ended
@@ -51,26 +51,26 @@ returns-then-ended c =
     let a = c.args in
     let k = kept_of a.held a.line.now a.state.now in
     let e = c.end_line-ended.ensures in
-    begun-bad k a.block.now a.out.now a.at c.line-end.result c.requires.0 c.requires.1 c.line-end.ensures c.if1.false c.keep2.ensures.0 c.keep2.ensures.1 c.requires.2
-    e.place_value e.bad_value.0 e.bad_value.1.0 e.bad_value.1.1 (sym c.has_room.ensures ∙ c.if2.false) c.if-ended.true c.behind_bad.ensures
+    begun-bad k a.block.now a.out.now a.at c.line_end-end.result c.requires.0 c.requires.1 c.line_end-end.ensures c.if-end-block.false c.keep-bytes-2.ensures.value c.keep-bytes-2.ensures.line_after c.requires.2
+    e.place_value e.bad_value.0 e.bad_value.1.0 e.bad_value.1.1 (sym c.has_room.ensures ∙ c.if-not-has_room.false) c.if-ended.true c.behind_bad.ensures
 
 pub overflow_add-end-2 : goal.overflow_add-end-2
 overflow_add-end-2 c =
     let a = c.args in
     let k = kept_of a.held a.line.now a.state.now in
-    let within = more k a.block.now a.out.now a.at c.line-end.result c.requires.0 c.requires.1 c.line-end.ensures c.if1.false in
+    let within = more k a.block.now a.out.now a.at c.line_end-end.result c.requires.0 c.requires.1 c.line_end-end.ensures c.if-end-block.false in
     search (rules, within)
 
 pub take_lines-requires : goal.take_lines-requires
 take_lines-requires c =
     let a = c.args in
     let k = kept_of a.held a.line.now a.state.now in
-    (omega (arith, more k a.block.now a.out.now a.at c.line-end.result c.requires.0 c.requires.1 c.line-end.ensures c.if1.false), c.keep2.auto.0 ∙ c.requires.1)
+    (omega (arith, more k a.block.now a.out.now a.at c.line_end-end.result c.requires.0 c.requires.1 c.line_end-end.ensures c.if-end-block.false), c.keep-bytes-2.auto.line ∙ c.requires.1)
 
 pub returns : goal.returns
 returns c =
     let a = c.args in
     let k = kept_of a.held a.line.now a.state.now in
     let e = c.end_line-ended.ensures in
-    begun-on k a.block.now a.out.now a.at c.line-end.result c.requires.0 c.requires.1 c.line-end.ensures c.if1.false c.keep2.ensures.0 c.keep2.ensures.1 c.requires.2
-    e.place_value e.bad_value.0 e.bad_value.1.0 e.bad_value.1.1 (sym c.has_room.ensures ∙ c.if2.false) c.if-ended.false c.wrapping_add_u64.ensures c.take_lines.ensures
+    begun-on k a.block.now a.out.now a.at c.line_end-end.result c.requires.0 c.requires.1 c.line_end-end.ensures c.if-end-block.false c.keep-bytes-2.ensures.value c.keep-bytes-2.ensures.line_after c.requires.2
+    e.place_value e.bad_value.0 e.bad_value.1.0 e.bad_value.1.1 (sym c.has_room.ensures ∙ c.if-not-has_room.false) c.if-ended.false c.wrapping_add_u64.ensures c.take_lines.ensures
