@@ -12,12 +12,6 @@ use Rattle.script.proofs.Places.{its-count, other-count}
 use Rattle.script.proofs.Readings.{decimal-none, decimal-read, decimal-next, either_way}
 use Rattle.script.proofs.command.map.Goals as goal
 
-abbrev start : tie.After-guard → tie.Start
-start c = c.before.before.before.before
-
-second : (c : goal.In-Till-2) → Starts (start c).args.line.now (fields_of (start c).args.line.now) 2 (c.in-Till.end + 1)
-second c = decimal-next (start c).requires c.decimal_at.ensures c.in-Till.is
-
 pub returns-in_default : goal.returns-in_default
 unfolding map_line
 returns-in_default c =
@@ -26,9 +20,12 @@ returns-in_default c =
 
 pub returns-then-line-end : goal.returns-then-line-end
 unfolding map_line
-returns-then-line-end c = rw (other-count (second c.before.before) (λ e. c.if-line-end.true (omega arith)))
+returns-then-line-end c =
+    let second = decimal-next c.requires c.decimal_at.ensures c.in-Till.is in
+    rw (other-count second (λ e. c.if-line-end.true (omega arith)))
 
 pub returns : goal.returns
 unfolding map_line
 returns c =
-    rw (its-count (second c) (omega (arith, c.if-line-end.false)), decimal-read (start c).requires c.decimal_at.ensures c.in-Till.is)
+    let second = decimal-next c.requires c.decimal_at.ensures c.in-Till.is in
+    rw (its-count second (omega (arith, c.if-line-end.false)), decimal-read c.requires c.decimal_at.ensures c.in-Till.is)

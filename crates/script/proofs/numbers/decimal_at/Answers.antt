@@ -22,21 +22,12 @@ returns-then-not-is_decimal c =
     decimal-none _ _ c.if-line-from.false
     (told c.is_decimal.ensures (c.if-not-is_decimal.true))
 
--- the first digit
-abbrev start : tie.Else2 invariant-loop decreases-loop → tie.Start invariant-loop decreases-loop
-start c = c.before.before.before.before.before
-
-first : (c : goal.Else-not-is_decimal) → is_decimal (get_or (start c).args.line.now (start c).args.from 0) ≡ true
-first c = told c.is_decimal.ensures (c.if-not-is_decimal.false)
-
-first-bounds : (c : goal.Else-not-is_decimal)
-    → (48 ≤ get_or (start c).args.line.now (start c).args.from 0) × (get_or (start c).args.line.now (start c).args.from 0 ≤ 57)
-first-bounds c = decimal-bounds _ (first c)
-
 pub loop-i-init : goal.loop-i-init
 loop-i-init c =
+    let first = told c.is_decimal.ensures (c.if-not-is_decimal.false) in
+    let first-bounds = decimal-bounds (get_or c.args.line.now c.args.from 0) first in
     let w = c.if-line-from.false in
-    (omega (arith, w), omega (arith, first-bounds c), decimal-begin _ _ w (first c))
+    (omega (arith, w), omega (arith, first-bounds), decimal-begin _ _ w first)
 
 pub returns-then-b-eq9 : goal.returns-then-b-eq9
 returns-then-b-eq9 c =
@@ -55,38 +46,20 @@ or-not true u h = absurd (true≢false h)
 or-not false true h = (refl, refl)
 or-not false false h = absurd (true≢false h)
 
--- one digit more
-abbrev line : tie.Else4 invariant-loop decreases-loop → List ℕ
-line c = c.before.before.before.before.before.before.before.before.before.before.before.args.line.now
-
-abbrev byte : tie.Else4 invariant-loop decreases-loop → ℕ
-byte c = get_or (line c) c.before.before.before.before.before.loop.i 0
-
-more : (c : goal.Else-n-is_decimal) → (eqb c.loop-i.n 0 ≡ false) × (c.is_decimal-in-loop-i.result ≡ true)
-more c = or-not _ _ c.if-n-is_decimal.false
-
-next : (c : goal.Else-n-is_decimal) → is_decimal (byte c) ≡ true
-next c = told c.is_decimal-in-loop-i.ensures (more c).1
-
-bounds : (c : goal.Else-n-is_decimal) → (48 ≤ byte c) × (byte c ≤ 57)
-bounds c = decimal-bounds (byte c) (next c)
-
-step : (c : goal.Else-n-is_decimal)
-    → reads_on (line c) (10 * c.loop-i.n + (byte c - 48)) (c.loop-i.i + 1)
-    ≡ decimal_at (line c) c.args.from
-step c =
-    let l = c.loop-i in
-    decimal_step (line c) l.n l.i c.loop-i-test.true c.if-b-eq9.false
-    (omega (arith, eqb-false l.n 0 (more c).0)) (next c)
-    ∙ l.invariant.2
-
 pub returns-then-n-gt-NUMBER_MOST : goal.returns-then-n-gt-NUMBER_MOST
-returns-then-n-gt-NUMBER_MOST c = decimal-over _ _ _ c.if-n-gt-NUMBER_MOST.true ∙ step c.before
+returns-then-n-gt-NUMBER_MOST c =
+    let more = or-not _ _ c.if-n-is_decimal.false in
+    let next = told c.is_decimal-in-loop-i.ensures more.1 in
+    let step : reads_on (c.args.line.now) (10 * c.loop-i.n + ((get_or (c.args.line.now) c.loop-i.i 0) - 48)) (c.loop-i.i + 1) ≡ decimal_at (c.args.line.now) c.args.from = let l = c.loop-i in decimal_step (c.args.line.now) l.n l.i c.loop-i-test.true c.if-b-eq9.false (omega (arith, eqb-false l.n 0 more.0)) next ∙ l.invariant.2 in
+    decimal-over _ _ _ c.if-n-gt-NUMBER_MOST.true ∙ step
 
 pub loop-i-preserved : goal.loop-i-preserved
 loop-i-preserved c =
+    let more = or-not _ _ c.if-n-is_decimal.false in
+    let next = told c.is_decimal-in-loop-i.ensures more.1 in
+    let step : reads_on (c.args.line.now) (10 * c.loop-i.n + ((get_or (c.args.line.now) c.loop-i.i 0) - 48)) (c.loop-i.i + 1) ≡ decimal_at (c.args.line.now) c.args.from = let l = c.loop-i in decimal_step (c.args.line.now) l.n l.i c.loop-i-test.true c.if-b-eq9.false (omega (arith, eqb-false l.n 0 more.0)) next ∙ l.invariant.2 in
     let w = c.loop-i-test.true in
-    (omega (arith, w), c.if-n-gt-NUMBER_MOST.false, step c.before)
+    (omega (arith, w), c.if-n-gt-NUMBER_MOST.false, step)
 
 pub returns : goal.returns
 returns c =
@@ -94,10 +67,16 @@ returns c =
     decimal-end _ l.n l.i c.loop-i-test.false l.invariant.1 ∙ l.invariant.2
 
 pub overflow_sub-n : goal.overflow_sub-n
-overflow_sub-n c = omega (arith, first-bounds c)
+overflow_sub-n c =
+    let first = told c.is_decimal.ensures (c.if-not-is_decimal.false) in
+    let first-bounds = decimal-bounds (get_or c.args.line.now c.args.from 0) first in
+    omega (arith, first-bounds)
 
 pub overflow_cast-n : goal.overflow_cast-n
-overflow_cast-n c = omega (arith, first-bounds c)
+overflow_cast-n c =
+    let first = told c.is_decimal.ensures (c.if-not-is_decimal.false) in
+    let first-bounds = decimal-bounds (get_or c.args.line.now c.args.from 0) first in
+    omega (arith, first-bounds)
 
 pub overflow_cast-result : goal.overflow_cast-result
 overflow_cast-result c = omega (arith, c.loop-i.invariant.1)
@@ -106,13 +85,25 @@ pub overflow_mul-n : goal.overflow_mul-n
 overflow_mul-n c = omega (arith, c.loop-i.invariant.1)
 
 pub overflow_sub-n-in-loop-i : goal.overflow_sub-n-in-loop-i
-overflow_sub-n-in-loop-i c = omega (arith, bounds c)
+overflow_sub-n-in-loop-i c =
+    let more = or-not _ _ c.if-n-is_decimal.false in
+    let next = told c.is_decimal-in-loop-i.ensures more.1 in
+    let bounds = decimal-bounds (get_or (c.args.line.now) c.loop-i.i 0) next in
+    omega (arith, bounds)
 
 pub overflow_cast-n-in-loop-i : goal.overflow_cast-n-in-loop-i
-overflow_cast-n-in-loop-i c = omega (arith, bounds c)
+overflow_cast-n-in-loop-i c =
+    let more = or-not _ _ c.if-n-is_decimal.false in
+    let next = told c.is_decimal-in-loop-i.ensures more.1 in
+    let bounds = decimal-bounds (get_or (c.args.line.now) c.loop-i.i 0) next in
+    omega (arith, bounds)
 
 pub overflow_add-n : goal.overflow_add-n
-overflow_add-n c = omega (arith, bounds c, c.loop-i.invariant.1)
+overflow_add-n c =
+    let more = or-not _ _ c.if-n-is_decimal.false in
+    let next = told c.is_decimal-in-loop-i.ensures more.1 in
+    let bounds = decimal-bounds (get_or (c.args.line.now) c.loop-i.i 0) next in
+    omega (arith, bounds, c.loop-i.invariant.1)
 
 pub overflow_cast-result-2 : goal.overflow_cast-result-2
 overflow_cast-result-2 c = omega (arith, c.loop-i.invariant.1)

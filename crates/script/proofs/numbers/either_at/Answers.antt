@@ -18,28 +18,19 @@ pub returns-then-not-ends : goal.returns-then-not-ends
 returns-then-not-ends c =
     not_there (either-fixed _ _ c.requires.1 c.requires.2) _ _ (told c.ends.ensures (c.if-not-ends.true))
 
-abbrev start : tie.Else1 → tie.Start
-start c = c.before.before.before
-
-within : (c : goal.Else-not-ends) → (start c).args.from + 1 ≤ length (start c).args.line.now
-within c =
-    ends-within (start c).args.line.now ((start c).args.from + 1)
-    (told c.ends.ensures (c.if-not-ends.false))
-
--- the field is the byte there
-byte : (c : goal.Else-not-ends)
-    → either_of (start c).args.this (start c).args.that (get_or (start c).args.line.now (start c).args.from 0 ∷ [])
-    ≡ either_of (start c).args.this (start c).args.that (field_from (start c).args.line.now (start c).args.from)
-byte c =
-    let a = (start c).args in
-    ap (either_of a.this a.that) (sym (one_byte a.line.now a.from (omega (arith, within c))))
-    ∙ read-there (either-fixed _ _ (start c).requires.1 (start c).requires.2) _ _ (told c.ends.ensures (c.if-not-ends.false))
-
 pub returns-then-b-this : goal.returns-then-b-this
-returns-then-b-this c = rw c.if-b-this.true at (either-byte _ _ _ ∙ byte c.before.before)
+returns-then-b-this c =
+    let within = ends-within c.args.line.now (c.args.from + 1) (told c.ends.ensures (c.if-not-ends.false)) in
+    let byte : either_of c.args.this c.args.that (get_or c.args.line.now c.args.from 0 ∷ []) ≡ either_of c.args.this c.args.that (field_from c.args.line.now c.args.from) = let a = c.args in ap (either_of a.this a.that) (sym (one_byte a.line.now a.from (omega (arith, within)))) ∙ read-there (either-fixed _ _ c.requires.1 c.requires.2) _ _ (told c.ends.ensures (c.if-not-ends.false)) in
+    rw c.if-b-this.true at (either-byte _ _ _ ∙ byte)
 
 pub returns-else-b-this : goal.returns-else-b-this
-returns-else-b-this c = rw c.if-b-this.false at (either-byte _ _ _ ∙ byte c.before.before)
+returns-else-b-this c =
+    let within = ends-within c.args.line.now (c.args.from + 1) (told c.ends.ensures (c.if-not-ends.false)) in
+    let byte : either_of c.args.this c.args.that (get_or c.args.line.now c.args.from 0 ∷ []) ≡ either_of c.args.this c.args.that (field_from c.args.line.now c.args.from) = let a = c.args in ap (either_of a.this a.that) (sym (one_byte a.line.now a.from (omega (arith, within)))) ∙ read-there (either-fixed _ _ c.requires.1 c.requires.2) _ _ (told c.ends.ensures (c.if-not-ends.false)) in
+    rw c.if-b-this.false at (either-byte _ _ _ ∙ byte)
 
 pub bounds-line-from : goal.bounds-line-from
-bounds-line-from c = omega (arith, within c.before)
+bounds-line-from c =
+    let within = ends-within c.args.line.now (c.args.from + 1) (told c.ends.ensures (c.if-not-ends.false)) in
+    omega (arith, within)

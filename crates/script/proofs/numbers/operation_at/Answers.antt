@@ -19,38 +19,35 @@ pub returns-then-not-ends : goal.returns-then-not-ends
 returns-then-not-ends c =
     not_there operation-fixed _ _ (told c.ends.ensures (c.if-not-ends.true))
 
-abbrev start : tie.Else1 → tie.Start
-start c = c.before.before.before
-
-within : (c : goal.Else-not-ends) → (start c).args.from + 1 ≤ length (start c).args.line.now
-within c =
-    ends-within (start c).args.line.now ((start c).args.from + 1)
-    (told c.ends.ensures (c.if-not-ends.false))
-
--- the field is the byte there
-byte : (c : goal.Else-not-ends)
-    → operation_of (get_or (start c).args.line.now (start c).args.from 0 ∷ []) ≡ operation_of (field_from (start c).args.line.now (start c).args.from)
-byte c =
-    let a = (start c).args in
-    ap operation_of (sym (one_byte a.line.now a.from (omega (arith, within c))))
-    ∙ read-there operation-fixed _ _ (told c.ends.ensures (c.if-not-ends.false))
-
 pub returns-in-114 : goal.returns-in-114
 unfolding operation_of same
-returns-in-114 c = rw c.in-114.is at (byte c.before.before)
+returns-in-114 c =
+    let within = ends-within c.args.line.now (c.args.from + 1) (told c.ends.ensures (c.if-not-ends.false)) in
+    let byte : operation_of (get_or c.args.line.now c.args.from 0 ∷ []) ≡ operation_of (field_from c.args.line.now c.args.from) = let a = c.args in ap operation_of (sym (one_byte a.line.now a.from (omega (arith, within)))) ∙ read-there operation-fixed _ _ (told c.ends.ensures (c.if-not-ends.false)) in
+    rw c.in-114.is at byte
 
 pub returns-in-119 : goal.returns-in-119
 unfolding operation_of same
-returns-in-119 c = rw c.in-119.is at (byte c.before.before)
+returns-in-119 c =
+    let within = ends-within c.args.line.now (c.args.from + 1) (told c.ends.ensures (c.if-not-ends.false)) in
+    let byte : operation_of (get_or c.args.line.now c.args.from 0 ∷ []) ≡ operation_of (field_from c.args.line.now c.args.from) = let a = c.args in ap operation_of (sym (one_byte a.line.now a.from (omega (arith, within)))) ∙ read-there operation-fixed _ _ (told c.ends.ensures (c.if-not-ends.false)) in
+    rw c.in-119.is at byte
 
 pub returns-in-120 : goal.returns-in-120
 unfolding operation_of same
-returns-in-120 c = rw c.in-120.is at (byte c.before.before)
+returns-in-120 c =
+    let within = ends-within c.args.line.now (c.args.from + 1) (told c.ends.ensures (c.if-not-ends.false)) in
+    let byte : operation_of (get_or c.args.line.now c.args.from 0 ∷ []) ≡ operation_of (field_from c.args.line.now c.args.from) = let a = c.args in ap operation_of (sym (one_byte a.line.now a.from (omega (arith, within)))) ∙ read-there operation-fixed _ _ (told c.ends.ensures (c.if-not-ends.false)) in
+    rw c.in-120.is at byte
 
 pub returns-in_default : goal.returns-in_default
 returns-in_default c =
+    let within = ends-within c.args.line.now (c.args.from + 1) (told c.ends.ensures (c.if-not-ends.false)) in
+    let byte : operation_of (get_or c.args.line.now c.args.from 0 ∷ []) ≡ operation_of (field_from c.args.line.now c.args.from) = let a = c.args in ap operation_of (sym (one_byte a.line.now a.from (omega (arith, within)))) ∙ read-there operation-fixed _ _ (told c.ends.ensures (c.if-not-ends.false)) in
     let k = c.in_default.in_default-own.rest in
-    other_byte _ k.0.0.1 k.0.1 k.1 ∙ byte c.before.before
+    other_byte _ k.0.0.1 k.0.1 k.1 ∙ byte
 
 pub bounds-line-from : goal.bounds-line-from
-bounds-line-from c = omega (arith, within c.before)
+bounds-line-from c =
+    let within = ends-within c.args.line.now (c.args.from + 1) (told c.ends.ensures (c.if-not-ends.false)) in
+    omega (arith, within)
