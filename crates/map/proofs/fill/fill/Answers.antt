@@ -13,26 +13,25 @@ use Rattle.map.proofs.fill.fill.Goals as goal
 pub returns-then-state-ne-STATE_WORDS : goal.returns-then-state-ne-STATE_WORDS
 unfolding fill_answer fill_used fill_numbers
 returns-then-state-ne-STATE_WORDS c =
-    let all = simp (ne_eqb _ _ c.if-state-ne-STATE_WORDS.true) (refl, (refl, refl)) in
-    record { answer_value = all.0; used_value = all.1; buffer_after = all.2 }
+    simp (ne_eqb _ _ c.if-state-ne-STATE_WORDS.true)
+    (record { answer_value = refl; used_value = refl; buffer_after = refl })
 
 pub returns-then-buffer-lt-LEAST_ROOM : goal.returns-then-buffer-lt-LEAST_ROOM
 unfolding fill_answer fill_used fill_numbers
 returns-then-buffer-lt-LEAST_ROOM c =
-    let all = simp (eq-eqb _ _ c.if-state-ne-STATE_WORDS.false, lt-leb _ _ c.if-buffer-lt-LEAST_ROOM.true) (refl, (refl, refl)) in
-    record { answer_value = all.0; used_value = all.1; buffer_after = all.2 }
+    simp (eq-eqb _ _ c.if-state-ne-STATE_WORDS.false, lt-leb _ _ c.if-buffer-lt-LEAST_ROOM.true)
+    (record { answer_value = refl; used_value = refl; buffer_after = refl })
 
 pub returns-then-not-shape : goal.returns-then-not-shape
 unfolding fill_answer fill_used fill_numbers
 returns-then-not-shape c =
     let s = c.shape-shape in
-    let all = simp (
+    simp (
       eq-eqb _ _ c.if-state-ne-STATE_WORDS.false,
       le-leb _ _ c.if-buffer-lt-LEAST_ROOM.false,
       sym (ap (λ (x : Shape). x.there) s.ensures) ∙ not-true s.result.there c.if-not-shape.true,
     )
-    (refl, (refl, refl)) in
-    record { answer_value = all.0; used_value = all.1; buffer_after = all.2 }
+    (record { answer_value = refl; used_value = refl; buffer_after = refl })
 
 pub sweep-count-requires : goal.sweep-count-requires
 sweep-count-requires c =
@@ -61,4 +60,4 @@ returns c =
     (passed (ap (λ (x : Shape). x.there) c.shape-shape.ensures) c.if-not-shape.false) s
     (c.region_words-w.ensures ∙ rw c.shape-shape.ensures (guard-regions a.state.now a.guard.0 c.if-state-ne-STATE_WORDS.false))
     u.ensures.value u.ensures.lent_after in
-    record { answer_value = all.0; used_value = all.1; buffer_after = all.2 }
+    record { answer_value = all.0; used_value = all.1.0; buffer_after = all.1.1 }

@@ -17,8 +17,8 @@ use Rattle.map.proofs.fill.sweep.Given as goal
 abbrev pub invariant-loop-at-2 : goal.invariant-loop-at-2
 invariant-loop-at-2 l =
     (l.initial.at ≤ l.at)
-    × ((l : List ℕ) → Swept (rights_word l.bus l.w l.n) (bounds_of (pairs_of l.w l.n)) l.window l l.initial.at l.initial.count l.initial.lent
-    → Swept (rights_word l.bus l.w l.n) (bounds_of (pairs_of l.w l.n)) l.window l l.at l.count l.lent)
+    × ((m : List ℕ) → Swept (rights_word l.bus l.w l.n) (bounds_of (pairs_of l.w l.n)) l.window m l.initial.at l.initial.count l.initial.lent
+    → Swept (rights_word l.bus l.w l.n) (bounds_of (pairs_of l.w l.n)) l.window m l.at l.count l.lent)
 
 abbrev pub decreases-loop-at-2 : goal.decreases-loop-at-2
 decreases-loop-at-2 l = l.to - l.at
