@@ -2,7 +2,8 @@
 use mathlib.Core.Bool.{Bool, true, false, ◌&&◌}
 use mathlib.Core.List.{List, [], ◌∷◌, ◌++◌, map}
 use mathlib.Core.Path.{◌≡◌, refl, sym, ap, ap₂, ◌∙◌}
-use Prim.Native.Nat.{ℕ, suc, ◌+◌}
+use Prim.Native.Nat.{ℕ, suc, ◌+◌, ◌<◌, ◌≤◌}
+use native.Mathlib.Numerals.{add-one}
 use native.Mathlib.Omega.{arith}
 use lib.Dec.{leb}
 use lib.ListN.{length, get_or, set, drop}
@@ -52,33 +53,32 @@ module _ (st₀ : List ℕ) (ys : List MemoryAccess) (an₀ : List ℕ) where
   Ensured r st an =
       (r ≡ batched st₀ ys an₀) × ((st ≡ batch_state st₀ ys an₀) × (an ≡ batch_answers st₀ ys an₀))
 
-  -- what holds where i accesses are done and t are left
-  pub record Kept (t i : ℕ) (st an : List ℕ) : Type 0 where
-    pub left : t + i ≡ length ys
+  -- what holds where i accesses are done
+  pub record Kept (i : ℕ) (st an : List ℕ) : Type 0 where
+    pub within : i ≤ length ys
     pub words : length st ≡ state_words
     pub places : length an ≡ length an₀
     pub state : applied (map Memory (drop i ys)) st ≡ applied (map Memory ys) st₀
     pub stored : sets an i (coded (drop i ys) st) ≡ sets an₀ 0 (coded ys st₀)
 
-  pub kept-first : length st₀ ≡ state_words → Kept (length ys) 0 st₀ an₀
-  kept-first h = record { left = omega arith; words = h; places = refl; state = refl; stored = refl }
+  pub kept-first : length st₀ ≡ state_words → Kept 0 st₀ an₀
+  kept-first h = record { within = omega arith; words = h; places = refl; state = refl; stored = refl }
 
-  pub kept_next : (t i : ℕ) (st an st' an' : List ℕ) → Kept (suc t) i st an → length st' ≡ length st → length an' ≡ length an
-      → Does (get_or ys i none) i st an st' an' → Kept t (suc i) st' an'
+  pub kept_next : (i : ℕ) (st an st' an' : List ℕ) → i < length ys → Kept i st an → length st' ≡ length st → length an' ≡ length an
+      → Does (get_or ys i none) i st an st' an' → Kept (i + 1) st' an'
   unfolding applied applied_answers
-  kept_next t i st an st' an' k e₁ e₃ d =
-      let here : drop i ys ≡ get_or ys i none ∷ drop (suc i) ys = drop-cons ys i none (omega (arith, k.left)) in
+  kept_next i st an st' an' h k e₁ e₃ d =
+      let here : drop i ys ≡ get_or ys i none ∷ drop (i + 1) ys = rw add-one (drop-cons ys i none h) in
       record {
-        left = omega (arith, k.left);
+        within = omega arith;
         words = e₁ ∙ k.words;
         places = e₃ ∙ k.places;
-        state = ap (applied (map Memory (drop (suc i) ys))) d.0 ∙ sym (ap (λ l. applied (map Memory l) st) here) ∙ k.state;
-        stored = ap₂ (λ l s. sets l (suc i) (coded (drop (suc i) ys) s)) d.1 d.0
-            ∙ sym (ap (λ l. sets an i (coded l st)) here)
-            ∙ k.stored;
+        state = ap (applied (map Memory (drop (i + 1) ys))) d.0 ∙ sym (ap (λ l. applied (map Memory l) st) here) ∙ k.state;
+        stored = ap₂ (λ l s. sets l (i + 1) (coded (drop (i + 1) ys) s)) d.1 d.0
+            ∙ rw add-one (sym (ap (λ l. sets an i (coded l st)) (rw add-one at here)) ∙ k.stored);
       }
 
-  pub kept-last : (st an : List ℕ) → fits st₀ ys an₀ ≡ true → Kept 0 (length ys) st an → Ensured (Done 0) st an
+  pub kept-last : (st an : List ℕ) → fits st₀ ys an₀ ≡ true → Kept (length ys) st an → Ensured (Done 0) st an
   unfolding applied applied_answers batched batch_state batch_answers
   kept-last st an f k =
       let end : drop (length ys) ys ≡ [] = drop-length ys in

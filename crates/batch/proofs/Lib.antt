@@ -1,2 +1,1 @@
 pub mod BatchTurns
-pub mod Walks
