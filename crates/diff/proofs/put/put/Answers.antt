@@ -42,6 +42,5 @@ bounds-lent-i-6 c = simp length-set (omega arith)
 pub returns : goal.returns
 returns c =
     let a = c.args in
-    let all = rw c.differing.ensures
-    (put-adds a.lent.now a.count a.start a.end a.old a.new c.if-old-new.false (sym c.continues.ensures ∙ c.if-continues.false)) in
-    record { value = all.0; lent_after = all.1 }
+    rw c.differing.ensures
+    (let all = (put-adds a.lent.now a.count a.start a.end a.old a.new c.if-old-new.false (sym c.continues.ensures ∙ c.if-continues.false)) in record { value = all.0; lent_after = all.1 })

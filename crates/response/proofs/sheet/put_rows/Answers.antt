@@ -15,8 +15,7 @@ loop-k-init c = (no_rows c.args.out.now c.args.map.now c.args.at (omega (arith, 
 
 pub put_row-p-requires : goal.put_row-p-requires
 put_row-p-requires c =
-    let l = c.loop-k in
-    (
+    let l = c.loop-k in (
       omega (arith, l.invariant.0.next, l.invariant.1, rows-length l.k c.args.map.now, c.requires.0, c.loop-k-test.true),
       omega (arith, c.requires.1, c.loop-k-test.true),
     )
