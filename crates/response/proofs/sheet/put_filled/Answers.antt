@@ -14,11 +14,11 @@ put_sheet-requires c =
     let f = c.fill-filled in (
       c.requires.0,
       made-few c.args.state.now c.args.lent.now c.args.guard.0 c.requires.1 f.ensures.answer_value c.number.ensures
-          c.if-number-ne0.false f.ensures.used_value.1 f.ensures.used_value.0 c.used_part-map.ensures,
+          c.if-number-ne0.false f.ensures.buffer_after f.ensures.used_value c.used_part-map.ensures,
     )
 
 pub returns : goal.returns
 returns c =
     let f = c.fill-filled in
     made-map c.args.state.now c.args.lent.now c.args.guard.0 c.requires.1 f.ensures.answer_value c.number.ensures
-    c.if-number-ne0.false f.ensures.used_value.1 f.ensures.used_value.0 c.used_part-map.ensures c.put_sheet.ensures
+    c.if-number-ne0.false f.ensures.buffer_after f.ensures.used_value c.used_part-map.ensures c.put_sheet.ensures

@@ -12,7 +12,7 @@ pub put_rows-b-requires : goal.put_rows-b-requires
 put_rows-b-requires c =
     let p = c.print_guard-a in
     let g = guard-line c.args.guard.0 (omega arith) (omega (arith, c.requires.0)) p.ensures.next p.ensures.bytes in
-    (omega (arith, g.next, guard-most c.args.guard.0 (omega arith), p.auto.0, c.requires.0, c.requires.1), omega arith)
+    (omega (arith, g.next, guard-most c.args.guard.0 (omega arith), p.auto.out, c.requires.0, c.requires.1), omega arith)
 
 pub returns : goal.returns
 returns c =
@@ -23,5 +23,5 @@ returns c =
     let count = length c.args.map.now / row_numbers in
     sheet-lines c.args.guard.0 count c.args.map.now g q.ensures
     (end-line count (omega (arith, c.requires.1))
-    (omega (arith, g.next, guard-most c.args.guard.0 (omega arith), p.auto.0, q.auto.0, q.ensures.next, rows-length count c.args.map.now, c.requires.0, c.requires.1))
+    (omega (arith, g.next, guard-most c.args.guard.0 (omega arith), p.auto.out, q.auto.out, q.ensures.next, rows-length count c.args.map.now, c.requires.0, c.requires.1))
     r.ensures.next r.ensures.bytes)
