@@ -9,7 +9,6 @@ ghost use Rattle.stream.specs.Transcript.{lines_in};
 use crate::feeds::line_end;
 use crate::kept::{Held, LINE_ROOM, keep};
 use response::{RESPONSE_MOST, respond};
-use std::num::wrapping_add_u64;
 
 // What a call gives back: how many bytes of the block it took, the place behind what it put out, what is kept now, and whether it stopped
 // behind a bad line, with that line's number.
@@ -68,7 +67,7 @@ fn behind_bad(took: usize, filled: usize, number: u64) -> Taken
         filled,
         held: Held {
             bytes: 0,
-            number: wrapping_add_u64(number, 1),
+            number: number.wrapping_add(1),
         },
         bad: true,
         which: number,
@@ -103,7 +102,7 @@ fn take_lines(
         if ended.bad {
             return behind_bad(start, place, next);
         }
-        next = wrapping_add_u64(next, 1);
+        next = next.wrapping_add(1);
         end = line_end(block, start);
     }
     let bytes = keep(line, 0, &block[start..]);
@@ -147,7 +146,7 @@ fn take_begun(
         return behind_bad(end + 1, ended.place, number);
     }
     take_lines(
-        wrapping_add_u64(number, 1),
+        number.wrapping_add(1),
         state,
         line,
         block,

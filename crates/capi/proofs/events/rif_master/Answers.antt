@@ -5,5 +5,5 @@ use Rattle.capi.proofs.events.rif_master.Goals as goal
 pub returns : goal.returns
 unfolding master_event
 returns c =
-    let all = c.master_encoded.ensures in
-    record { answer = all.0; next = all.1 }
+    let e = c.master_encoded.ensures in
+    record { answer = e.answer; next = e.next }

@@ -5,5 +5,5 @@ use Rattle.capi.proofs.events.rif_memory.Goals as goal
 pub returns : goal.returns
 unfolding memory_event
 returns c =
-    let all = c.memory_encoded.ensures in
-    record { answer = all.0; next = all.1 }
+    let e = c.memory_encoded.ensures in
+    record { answer = e.answer; next = e.next }

@@ -14,12 +14,11 @@ returns-then-row-eq-ROW_NUMBERS c =
     let three = c.if-row-eq-ROW_NUMBERS.true in
     let read : (i d : ℕ) → i < row_numbers → get_or row.result.now i 0 ≡ get_or row.result.now i d =
     λ i d h. read_number row.result.now i 0 d (rw three h) in
-    let all = rw (← row.ensures) (refl, (read 0 _ (omega arith), (read 1 _ (omega arith), read 2 _ (omega arith)))) in
-    record { count = all.0; start = all.1; end = all.2; rights = all.3 }
+    rw (← row.ensures)
+    (record { count = refl; start = read 0 _ (omega arith); end = read 1 _ (omega arith); rights = read 2 _ (omega arith) })
 
 pub returns-else-row-eq-ROW_NUMBERS : goal.returns-else-row-eq-ROW_NUMBERS
 returns-else-row-eq-ROW_NUMBERS c =
     let found = c.lookup-row.ensures in
     let none = none_found _ _ (λ e. c.if-row-eq-ROW_NUMBERS.false (ap length found ∙ e)) in
-    let all = rw (found, none) (refl, (refl, (refl, refl))) in
-    record { count = all.0; start = all.1; end = all.2; rights = all.3 }
+    rw (found, none) (record { count = refl; start = refl; end = refl; rights = refl })

@@ -6,5 +6,4 @@ use Rattle.capi.proofs.maps.rif_map.Goals as goal
 pub returns : goal.returns
 returns c =
     let f = c.fill-filled.ensures in
-    let all = (c.encoded.ensures ∙ ap encoded_of f.answer_value, (f.used_value.1, f.used_value.0)) in
-    record { answer = all.0; map = all.1; count = all.2 }
+    record { answer = c.encoded.ensures ∙ ap encoded_of f.answer_value; map = f.buffer_after; count = f.used_value }

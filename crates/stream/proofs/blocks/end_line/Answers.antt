@@ -7,18 +7,16 @@ pub returns-then-place-at : goal.returns-then-place-at
 returns-then-place-at c =
     let a = c.args in
     let q = c.respond-place in
-    let all = (q.ensures.place, (stays-good a.line.now a.number a.state.now a.out.now a.at q.ensures.place q.ensures.bytes.0 c.if-place-at.true, (q.ensures.bytes.0, q.ensures.bytes.1))) in
-    record { place_value = all.0; bad_value = all.1; out_after = all.2; state_after = all.3 }
+    record { place_value = q.ensures.place; bad_value = stays-good a.line.now a.number a.state.now a.out.now a.at q.ensures.place q.ensures.bytes c.if-place-at.true; out_after = q.ensures.bytes; state_after = q.ensures.next }
 
 pub bounds-out-at : goal.bounds-out-at
 bounds-out-at c =
     let a = c.args in
     let q = c.respond-place in
-    omega (arith, within a.line.now a.number a.state.now a.out.now a.at q.ensures.place q.ensures.bytes.0 c.if-place-at.false, q.auto)
+    omega (arith, within a.line.now a.number a.state.now a.out.now a.at q.ensures.place q.ensures.bytes c.if-place-at.false, q.auto.out)
 
 pub returns : goal.returns
 returns c =
     let a = c.args in
     let q = c.respond-place in
-    let all = (q.ensures.place, (moves-tell a.line.now a.number a.state.now a.out.now a.at q.ensures.place q.ensures.bytes.0 c.if-place-at.false, (q.ensures.bytes.0, q.ensures.bytes.1))) in
-    record { place_value = all.0; bad_value = all.1; out_after = all.2; state_after = all.3 }
+    record { place_value = q.ensures.place; bad_value = moves-tell a.line.now a.number a.state.now a.out.now a.at q.ensures.place q.ensures.bytes c.if-place-at.false; out_after = q.ensures.bytes; state_after = q.ensures.next }

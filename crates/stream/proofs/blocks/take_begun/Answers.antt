@@ -1,5 +1,5 @@
 -- `stream::blocks::take_begun` meets its contract: the begun line, as far as it is kept, and then the lines behind it.
-use Rattle.std.proofs.Common.{sym, ◌∙◌, arith, length-take-le, rules}
+use Rattle.std.proofs.Common.{refl, sym, ◌∙◌, arith, length-take-le, rules}
 use borrow.Author.Tests.{not-false, not-true}
 use Rattle.stream.specs.Kept.{kept_of}
 use Rattle.stream.proofs.Begun.{begun-bad, begun-fits, begun-full, begun-last, begun-on, more}
@@ -52,7 +52,7 @@ returns-then-ended c =
     let k = kept_of a.held a.line.now a.state.now in
     let e = c.end_line-ended.ensures in
     begun-bad k a.block.now a.out.now a.at c.line_end-end.result c.requires.0 c.requires.1 c.line_end-end.ensures c.if-end-block.false c.keep-bytes-2.ensures.value c.keep-bytes-2.ensures.line_after c.requires.2
-    e.place_value e.bad_value.0 e.bad_value.1.0 e.bad_value.1.1 (sym c.has_room.ensures ∙ c.if-not-has_room.false) c.if-ended.true c.behind_bad.ensures
+    e.place_value e.bad_value e.out_after e.state_after (sym c.has_room.ensures ∙ c.if-not-has_room.false) c.if-ended.true c.behind_bad.ensures
 
 pub overflow_add-end-2 : goal.overflow_add-end-2
 overflow_add-end-2 c =
@@ -73,4 +73,4 @@ returns c =
     let k = kept_of a.held a.line.now a.state.now in
     let e = c.end_line-ended.ensures in
     begun-on k a.block.now a.out.now a.at c.line_end-end.result c.requires.0 c.requires.1 c.line_end-end.ensures c.if-end-block.false c.keep-bytes-2.ensures.value c.keep-bytes-2.ensures.line_after c.requires.2
-    e.place_value e.bad_value.0 e.bad_value.1.0 e.bad_value.1.1 (sym c.has_room.ensures ∙ c.if-not-has_room.false) c.if-ended.false c.wrapping_add_u64.ensures c.take_lines.ensures
+    e.place_value e.bad_value e.out_after e.state_after (sym c.has_room.ensures ∙ c.if-not-has_room.false) c.if-ended.false refl c.take_lines.ensures

@@ -21,8 +21,8 @@ returns-then-behind-place c =
     let k = kept_of (nothing_of l.next) a.line.now l.state in
     let same = c.if-behind-place.true in
     stops-full a.block.now l.start l.end k l.out l.place l.invariant.3 l.invariant.2 l.invariant.4 c.loop-end-test.true
-    (stays x l.next l.state l.out l.place e.place_value e.bad_value.1.0 same)
-    (stays-left x l.next l.state l.out l.place e.place_value e.bad_value.1.0 e.bad_value.1.1 same) c.stopped.ensures
+    (stays x l.next l.state l.out l.place e.place_value e.out_after same)
+    (stays-left x l.next l.state l.out l.place e.place_value e.out_after e.state_after same) c.stopped.ensures
 
 pub returns-then-ended : goal.returns-then-ended
 returns-then-ended c =
@@ -31,9 +31,9 @@ returns-then-ended c =
     let e = c.end_line-ended.ensures in
     let x = part l.start l.end a.block.now in
     let k = kept_of (nothing_of l.next) a.line.now l.state in
-    let room = moves x l.next l.state l.out l.place e.place_value e.bad_value.1.0 c.if-behind-place.false in
+    let room = moves x l.next l.state l.out l.place e.place_value e.out_after c.if-behind-place.false in
     stops-bad a.block.now l.start l.end k l.out l.place l.invariant.3 l.invariant.2 l.invariant.4 c.loop-end-test.true
-    x refl e.place_value e.bad_value.0 e.bad_value.1.0 e.bad_value.1.1 refl room c.if-ended.true c.behind_bad.ensures
+    x refl e.place_value e.bad_value e.out_after e.state_after refl room c.if-ended.true c.behind_bad.ensures
 
 pub loop-end-preserved : goal.loop-end-preserved
 loop-end-preserved c =
@@ -44,13 +44,13 @@ loop-end-preserved c =
     let x = part l.start l.end a.block.now in
     let k = kept_of (nothing_of l.next) a.line.now l.state in
     let more = c.loop-end-test.true in
-    let room = moves x l.next l.state l.out l.place e.place_value e.bad_value.1.0 c.if-behind-place.false in (
-      kept.1.1.0 ∙ l.invariant.0,
-      kept.1.1.1.0 ∙ l.invariant.1,
+    let room = moves x l.next l.state l.out l.place e.place_value e.out_after c.if-behind-place.false in (
+      kept.state ∙ l.invariant.0,
+      kept.out ∙ l.invariant.1,
       omega (arith, more),
       c.line_end-end-in-loop-end.ensures,
       goes-on a.block.now l.start l.end k l.out l.place l.invariant.3 l.invariant.2 l.invariant.4 more
-          x refl e.place_value e.bad_value.0 e.bad_value.1.0 e.bad_value.1.1 refl room c.if-ended.false c.wrapping_add_u64-next.ensures,
+          x refl e.place_value e.bad_value e.out_after e.state_after refl room c.if-ended.false refl,
     )
 
 pub returns : goal.returns
