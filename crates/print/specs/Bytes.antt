@@ -1,6 +1,5 @@
 -- Text as bytes.
 use Prim.Native.Char.{code}
-use Prim.Native.String
 use Prim.Native.String.{String}
 use Rattle.std.specs.Prelude.{List, [], ◌∷◌, ℕ}
 

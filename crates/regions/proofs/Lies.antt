@@ -11,7 +11,7 @@ use lib.ListN.{get_or}
 use borrow.Author.Tests.{lt-ltb, le-ltb, lt-leb, le-leb}
 use Rattle.words.specs.Bit.{bit}
 use Rattle.regions.specs.Ahead.{lesser, region_ahead, base_ahead, ahead}
-use Rattle.regions.specs.Words.{base, start_at, end_at, enable_bit}
+use Rattle.regions.specs.Words.{start_at, end_at, enable_bit}
 use Rattle.regions.specs.Rules.{covers}
 
 -- ---- the lesser of two

@@ -9,7 +9,7 @@ use lib.Dec.{eqb, ltb}
 use lib.ListN.{length}
 use borrow.Author.Tests.{eq-eqb, ne_eqb, lt-leb, eqb-true}
 use Rattle.access.specs.Answer.{number_of}
-use Rattle.access.specs.Checks.{unless, answered, answered_with, reached_with}
+use Rattle.access.specs.Checks.{unless, answered_with, reached_with}
 use Rattle.access.specs.declared.answer.Answer.{Answer}
 use Rattle.access.specs.declared.answer.Answer.TheVariants.{Done, Refused, Rejected}
 use Rattle.access.specs.declared.answer.Why.TheVariants.{NoSuch, Misaligned, Outside}

@@ -1,11 +1,7 @@
 -- `spans::end_place` meets its contract: the rows are passed one after the other. Assumes nothing.
-use Prim.Native.Nat.{◌+◌, ◌-◌, ◌≤◌}
-use mathlib.Core.Path.{refl}
-use native.Mathlib.Omega.{arith}
+use Prim.Native.Nat.{◌-◌, ◌≤◌}
 use lib.ListN.{length}
-use borrow.Author.Rules.{rules}
 use Rattle.spans.specs.Passed.{Passed}
-use Rattle.spans.proofs.Found.{ended-before, ends-later, ended-all, place-later, passed-two, passed-three, passed-four}
 use Rattle.spans.proofs.end_place.Given as goal
 
 abbrev pub invariant-loop-i : goal.invariant-loop-i

@@ -1,10 +1,8 @@
 -- `spans::row_place` meets its contract: a row that does not end before the offset encloses it, or begins past it. Assumes nothing.
-use Prim.Native.Nat.{◌+◌, ◌-◌, ◌≤◌, ◌<◌}
+use Prim.Native.Nat.{◌+◌}
 use mathlib.Core.Logic.{inl}
 use mathlib.Core.Path.{refl}
 use native.Mathlib.Omega.{arith}
-use lib.ListN.{length, get_or}
-use borrow.Author.Rules.{rules}
 use Rattle.spans.specs.Passed.{Passed}
 use Rattle.spans.proofs.Found.{inside, outside, place-all, place_here, place-later}
 use Rattle.spans.proofs.row_place.Goals as goal

@@ -1,4 +1,3 @@
-use borrow.Author.Rules.{rules}
 use mathlib.Core.Path.{sym}
 use Rattle.words.proofs.Laws.{bit_high}
 use Rattle.words.proofs.bit_of.Goals as goal

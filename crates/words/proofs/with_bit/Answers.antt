@@ -1,4 +1,3 @@
-use borrow.Author.Rules.{rules}
 use mathlib.Core.Path.{sym}
 use Rattle.words.proofs.Masks.{with_bit-high}
 use Rattle.words.proofs.Ops.{clear-is, set_is}

@@ -1,5 +1,4 @@
 -- `capi::events::nothing` meets its contract: 4, but 8 comes first.
-use borrow.Author.Rules.{rules}
 use borrow.Author.Tests.{eq-eqb, ne_eqb}
 use Rattle.capi.specs.Events.{asked_answer}
 use Rattle.capi.proofs.events.nothing.Goals as goal

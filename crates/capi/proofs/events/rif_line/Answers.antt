@@ -1,5 +1,4 @@
 -- `capi::events::rif_line` meets its contract: the answer, encoded; 8 comes first.
-use borrow.Author.Rules.{rules}
 use borrow.Author.Tests.{ne_eqb}
 use mathlib.Core.Path.{◌∙◌, ap}
 use Rattle.access.specs.Answer.{encoded_of}

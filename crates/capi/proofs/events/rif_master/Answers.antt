@@ -1,4 +1,3 @@
-use borrow.Author.Rules.{rules}
 use Rattle.capi.specs.Events.{master_event}
 use Rattle.capi.proofs.events.rif_master.Goals as goal
 

@@ -1,4 +1,3 @@
-use borrow.Author.Rules.{rules}
 use Rattle.capi.specs.Events.{memory_event}
 use Rattle.capi.proofs.events.rif_memory.Goals as goal
 

@@ -1,5 +1,4 @@
 -- `capi::events::rif_peripheral` meets its contract: the operation that its number stands for, or nothing.
-use borrow.Author.Rules.{rules}
 use mathlib.Core.Path.{refl, sym, ap, ◌∙◌}
 use Rattle.access.specs.Answer.{encoded_of}
 use Rattle.capi.specs.Events.{asked_answer, asked_state, peripheral_asked}

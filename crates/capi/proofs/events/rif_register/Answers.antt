@@ -1,5 +1,4 @@
 -- `capi::events::rif_register` meets its contract: the block that its number stands for, or nothing.
-use borrow.Author.Rules.{rules}
 use mathlib.Core.Path.{refl, sym, ap, ◌∙◌}
 use Rattle.access.specs.Answer.{encoded_of}
 use Rattle.capi.specs.Events.{asked_answer, asked_state, register_asked}

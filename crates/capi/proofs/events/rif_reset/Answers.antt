@@ -1,5 +1,4 @@
 -- `capi::events::rif_reset` meets its contract: the answer, encoded.
-use borrow.Author.Rules.{rules}
 use mathlib.Core.Path.{◌∙◌, ap}
 use Rattle.access.specs.Answer.{encoded_of}
 use Rattle.capi.proofs.events.rif_reset.Goals as goal

@@ -1,6 +1,5 @@
 -- `capi::maps::rif_lookup` meets its contract: what is found is a row, or nothing.
 use mathlib.Core.Path.{◌≡◌, refl, ap, ◌∙◌}
-use borrow.Author.Rules.{rules}
 use native.Mathlib.Omega.{arith}
 use Prim.Native.Nat.{ℕ, ◌<◌}
 use lib.ListN.{get_or, length}

@@ -1,5 +1,4 @@
 use mathlib.Core.Path.{◌∙◌, ap}
-use borrow.Author.Rules.{rules}
 use Rattle.access.specs.Answer.{encoded_of}
 use Rattle.capi.proofs.maps.rif_map.Goals as goal
 

@@ -1,4 +1,3 @@
-use borrow.Author.Rules.{rules}
 use mathlib.Core.Path.{◌∙◌}
 use Rattle.device.specs.Step.{step}
 use Rattle.device.specs.declared.event.Event.TheVariants.{Master}

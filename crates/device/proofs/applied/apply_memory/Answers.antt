@@ -1,4 +1,3 @@
-use borrow.Author.Rules.{rules}
 use Rattle.device.specs.Step.{step}
 use Rattle.device.specs.declared.event.Event.TheVariants.{Memory}
 use Rattle.device.proofs.Applies.{other_length, own-length}

@@ -1,4 +1,3 @@
-use borrow.Author.Rules.{rules}
 use mathlib.Core.Path.{refl}
 use Rattle.device.specs.Step.{step}
 use Rattle.device.specs.declared.event.Event.TheVariants.{Reset}

@@ -1,4 +1,3 @@
-use borrow.Author.Rules.{rules}
 use mathlib.Core.Path.{refl}
 use lib.Dec.{lit<}
 use Rattle.device.specs.Layout.{cr_part, rimccr_part, state_of}

@@ -1,4 +1,3 @@
-use borrow.Author.Rules.{rules}
 use lib.Dec.{lit<}
 use Rattle.rifsc.specs.Masters.{attributes_of}
 use Rattle.device.specs.Layout.{seccfgr_part, attr_part, state_of}

@@ -1,4 +1,3 @@
-use borrow.Author.Rules.{rules}
 use lib.Dec.{lit<}
 use Rattle.rifsc.specs.Peripherals.{filter_of}
 use Rattle.device.specs.Layout.{seccfgr_part, privcfgr_part, state_of}

@@ -1,4 +1,3 @@
-use borrow.Author.Rules.{rules}
 use lib.Dec.{lit<}
 use Rattle.rifsc.specs.Contents.{seen}
 use Rattle.device.specs.Layout.{seccfgr_part, rcfglockr_part, state_of}

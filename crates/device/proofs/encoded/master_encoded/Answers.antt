@@ -1,5 +1,3 @@
-use borrow.Author.Rules.{rules}
-use borrow.Author.Tests.{not-true, not-false}
 use mathlib.Core.Path.{◌∙◌, ap, sym}
 use Rattle.access.specs.Answer.{encoded_of}
 use Rattle.device.specs.declared.event.Event.TheVariants.{Master}

@@ -1,4 +1,3 @@
-use borrow.Author.Rules.{rules}
 use borrow.Author.Tests.{eq-eqb, ne_eqb}
 use Rattle.iac.specs.OneWord.{kept}
 use Rattle.iac.proofs.HeldLaws.{fresh-most}

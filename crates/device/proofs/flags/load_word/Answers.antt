@@ -1,4 +1,3 @@
-use borrow.Author.Rules.{rules}
 use lib.Dec.{lit<}
 use Rattle.iac.specs.Contents.{stored}
 use Rattle.device.specs.Layout.{ier_part, isr_part, state_of}

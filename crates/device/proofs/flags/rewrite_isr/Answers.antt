@@ -1,4 +1,3 @@
-use borrow.Author.Rules.{rules}
 use lib.Dec.{lit<}
 use Rattle.device.specs.Layout.{ier_part, isr_part, state_of}
 use Rattle.device.proofs.HeldSteps.{state-sized, isr-kept}

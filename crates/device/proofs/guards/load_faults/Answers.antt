@@ -1,4 +1,3 @@
-use borrow.Author.Rules.{rules}
 use lib.Dec.{lit<}
 use Rattle.risaf.specs.Contents.{iasr_at, iaesr_at, iaddr_at}
 use Rattle.device.proofs.GuardLayout.{word_read}

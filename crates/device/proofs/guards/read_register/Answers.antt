@@ -5,7 +5,6 @@ use Prim.Native.Nat.{ℕ}
 use native.Mathlib.Nat.{add-sub_cancel_left}
 use Rattle.risaf.specs.Port.{read_answer}
 use Rattle.device.proofs.GuardLayout.{guard-words}
-use borrow.Author.Rules.{rules}
 use Rattle.device.proofs.guards.read_register.Goals as goal
 
 pub returns : goal.returns

@@ -1,4 +1,3 @@
-use borrow.Author.Rules.{rules}
 use mathlib.Core.Path.{◌∙◌}
 use Rattle.risaf.specs.Contents.{iaesr_at, iaddr_at, with_word}
 use Rattle.device.specs.Layout.{state_of}

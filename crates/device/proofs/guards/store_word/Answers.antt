@@ -1,4 +1,3 @@
-use borrow.Author.Rules.{rules}
 use Rattle.device.proofs.GuardLayout.{word-stored}
 use Rattle.device.proofs.guards.store_word.Goals as goal
 

@@ -1,5 +1,3 @@
-use borrow.Author.Rules.{rules}
-use borrow.Author.Tests.{not-true, not-false}
 use mathlib.Core.Path.{sym, ◌∙◌}
 use Rattle.device.specs.Layout.{state_of}
 use Rattle.device.proofs.PeripheralSteps.{no-peripheral, peripheral-fetched, peripheral-granted, peripheral-refused}

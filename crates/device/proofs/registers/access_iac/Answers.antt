@@ -4,7 +4,6 @@ use borrow.Author.Tests.{not-true, not-false}
 use Rattle.iac.specs.declared.registers.Row.{Row}
 use Rattle.device.specs.Layout.{state_of}
 use Rattle.device.proofs.BlockSteps.{flags-misaligned, flags-written, flags-refused, flags-rejected}
-use borrow.Author.Rules.{rules}
 use Rattle.device.proofs.registers.access_iac.Goals as goal
 
 pub returns-then-q-ne0 : goal.returns-then-q-ne0

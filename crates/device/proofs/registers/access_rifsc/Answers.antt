@@ -2,7 +2,6 @@
 use borrow.Author.Tests.{not-true, not-false}
 use Rattle.device.specs.Layout.{state_of}
 use Rattle.device.proofs.BlockSteps.{controller-misaligned, controller-written, controller-refused, controller-rejected}
-use borrow.Author.Rules.{rules}
 use Rattle.device.proofs.registers.access_rifsc.Goals as goal
 
 pub returns-then-q-ne0 : goal.returns-then-q-ne0

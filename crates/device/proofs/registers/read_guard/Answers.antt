@@ -8,7 +8,6 @@ use Rattle.risaf.proofs.Shapes.{place-lt}
 use Rattle.device.specs.Layout.{state_of}
 use Rattle.device.specs.State.{flagged}
 use Rattle.device.proofs.GuardSteps.{register-read-kept, register-read-refused}
-use borrow.Author.Rules.{rules}
 use borrow.Enum.Refused.{opened}
 use Rattle.device.proofs.registers.read_guard.Goals as goal
 

@@ -1,7 +1,6 @@
 -- `device::registers::read_iac` meets its contract: refused or not.
 use Rattle.device.specs.Layout.{state_of}
 use Rattle.device.proofs.BlockSteps.{flags-read-refused, flags-read-kept}
-use borrow.Author.Rules.{rules}
 use borrow.Enum.Refused.{opened}
 use Rattle.device.proofs.registers.read_iac.Goals as goal
 

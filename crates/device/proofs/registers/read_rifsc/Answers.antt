@@ -1,7 +1,6 @@
 -- `device::registers::read_rifsc` meets its contract.
 use Rattle.device.specs.Layout.{state_of}
 use Rattle.device.proofs.BlockSteps.{controller-read}
-use borrow.Author.Rules.{rules}
 use Rattle.device.proofs.registers.read_rifsc.Goals as goal
 
 pub returns : goal.returns

@@ -2,7 +2,6 @@ use mathlib.Core.Path.{◌≡◌, ap, ◌∙◌}
 use native.Mathlib.Omega.{arith}
 use lib.ListN.{length, replicate}
 use lib.Seq.{paste}
-use borrow.Author.Rules.{rules}
 use Rattle.risaf.specs.Contents.{head_words, regions_words, guard_size, reset}
 use Rattle.risaf.specs.declared.contents.Guard.{Guard}
 use Rattle.device.proofs.reset.guard_words.Goals as goal

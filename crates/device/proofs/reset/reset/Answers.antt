@@ -1,9 +1,8 @@
 use mathlib.Core.Path.{◌≡◌, refl, ap, ◌∙◌}
-use Prim.Native.Nat.{ℕ, ◌≤◌, ◌-◌}
+use Prim.Native.Nat.{ℕ}
 use native.Mathlib.Omega.{arith}
 use borrow.Author.Rules.{rules}
-use lib.ListN.{length}
-use Rattle.device.specs.Layout.{state_of, state_words}
+use Rattle.device.specs.Layout.{state_of}
 use Rattle.device.specs.State.{with_guards}
 use Rattle.device.proofs.ResetGuards.{reset_below, numbers, reset-more, state-reset}
 use Rattle.device.proofs.reset.reset.Goals as goal

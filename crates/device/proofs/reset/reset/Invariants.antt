@@ -1,11 +1,9 @@
-use mathlib.Core.Path.{◌≡◌, refl, ap, ◌∙◌}
-use Prim.Native.Nat.{ℕ, ◌≤◌, ◌-◌}
-use native.Mathlib.Omega.{arith}
-use borrow.Author.Rules.{rules}
+use mathlib.Core.Path.{◌≡◌}
+use Prim.Native.Nat.{◌≤◌, ◌-◌}
 use lib.ListN.{length}
 use Rattle.device.specs.Layout.{state_of, state_words}
 use Rattle.device.specs.State.{with_guards}
-use Rattle.device.proofs.ResetGuards.{reset_below, numbers, reset-more, state-reset}
+use Rattle.device.proofs.ResetGuards.{reset_below, numbers}
 use Rattle.device.proofs.reset.reset.Given as goal
 
 abbrev pub invariant-loop-n : goal.invariant-loop-n

@@ -1,4 +1,3 @@
-use borrow.Author.Rules.{rules}
 use Rattle.device.proofs.GuardLayout.{guard-stored}
 use mathlib.Core.Path.{ap, ◌∙◌}
 use Rattle.device.specs.Layout.{state_of}

@@ -2,7 +2,6 @@
 use mathlib.Core.Bool.{not}
 use mathlib.Core.Path.{ap}
 use native.Mathlib.Omega.{arith}
-use borrow.Author.Rules.{rules}
 use Rattle.diff.proofs.Made.{wrong-length, no-map, walkable, few, made}
 use Rattle.diff.proofs.fill.fill.Goals as goal
 

@@ -1,10 +1,6 @@
 -- `diff::lent::tiles` meets its contract. The loop's invariant: behind i numbers the rows that are left go on from at as those of the whole do from 0.
-use mathlib.Core.Path.{◌≡◌, refl, sym, ◌∙◌}
-use Prim.Native.Nat.{◌≤◌, ◌-◌}
+use mathlib.Core.Path.{refl, sym, ◌∙◌}
 use native.Mathlib.Omega.{arith}
-use lib.ListN.{length, drop}
-use borrow.Author.Rules.{rules}
-use Rattle.diff.specs.Lent.{tiles_from}
 use Rattle.diff.proofs.Tiled.{tiles-broken, tiles-on, tiles-end}
 use Rattle.diff.proofs.lent.tiles.Goals as goal
 

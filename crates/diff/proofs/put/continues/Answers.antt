@@ -1,5 +1,4 @@
 -- `diff::put::continues` meets its contract.
-use borrow.Author.Rules.{rules}
 use Rattle.diff.proofs.Added.{continues-first, continues-later, continues-at}
 use Rattle.diff.proofs.put.continues.Goals as goal
 

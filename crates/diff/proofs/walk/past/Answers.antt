@@ -1,5 +1,4 @@
 -- `diff::walk::past` meets its contract.
-use borrow.Author.Rules.{rules}
 use borrow.Author.Tests.{lt-ltb, le-ltb}
 use Rattle.diff.specs.Put.{past_row}
 use Rattle.diff.proofs.walk.past.Goals as goal

@@ -1,9 +1,6 @@
 -- `diff::walk::walk` meets its contract. The loop's invariant is `Walked`: the memory has what differs below at over its front.
 use Prim.Native.Nat.{◌-◌}
-use native.Mathlib.Omega.{arith}
-use borrow.Author.Rules.{rules}
-use Rattle.diff.proofs.Reached.{row-held, row_within}
-use Rattle.diff.proofs.Walked.{Walked, walked-begin, turn-to, turn-room, walked-turn, walked_end}
+use Rattle.diff.proofs.Walked.{Walked}
 use Rattle.diff.proofs.walk.walk.Given as goal
 
 abbrev pub invariant-loop-at : goal.invariant-loop-at

@@ -1,4 +1,3 @@
-use borrow.Author.Rules.{rules}
 use Rattle.iac.proofs.HeldLaws.{fresh-is}
 use Rattle.iac.proofs.held.fresh.Goals as goal
 

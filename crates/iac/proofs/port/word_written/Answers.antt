@@ -1,4 +1,3 @@
-use borrow.Author.Rules.{rules}
 use Rattle.iac.specs.Port.{word_written}
 use Rattle.iac.proofs.PortLaws.{cleared-is}
 use Rattle.iac.proofs.port.word_written.Goals as goal

@@ -1,4 +1,3 @@
-use borrow.Author.Rules.{rules}
 use Rattle.iac.specs.Registers.{iisr}
 use Rattle.iac.proofs.registers.iisr.Goals as goal
 

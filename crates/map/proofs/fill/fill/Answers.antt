@@ -2,7 +2,6 @@
 use mathlib.Core.Path.{refl, sym, ap, ◌∙◌}
 use Rattle.risaf.specs.declared.guards.Shape.{Shape}
 use native.Mathlib.Omega.{arith}
-use borrow.Author.Rules.{rules}
 use borrow.Author.Tests.{eq-eqb, ne_eqb, le-leb, lt-leb, not-true}
 use Rattle.map.specs.Fill.{fill_answer, fill_used, fill_numbers}
 use Rattle.map.proofs.Guards.{passed, small, guard-regions}

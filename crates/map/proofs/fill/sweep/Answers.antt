@@ -1,17 +1,11 @@
 -- `map::fill::sweep` meets its contract. The loop's invariant is `Swept`: the memory has the map of the offsets below at over its front. The
 -- inner loop's is that whatever memory it had so when the inner loop began, it has so now.
-use mathlib.Core.List.{List}
-use Prim.Native.Nat.{ℕ, ◌-◌, ◌≤◌}
+use Prim.Native.Nat.{◌≤◌}
 use native.Mathlib.Omega.{arith}
-use borrow.Author.Rules.{rules}
-use Rattle.regions.specs.Rights.{rights_word}
 use Rattle.regions.specs.Words.{most_regions}
-use Rattle.spans.specs.Sweep.{bounds_of}
-use Rattle.spans.proofs.Sweep.{Turn}
-use Rattle.spans.proofs.Fill.{Swept, swept-begin, swept-turn, swept-end}
-use Rattle.map.specs.Bounds.{pairs_of}
+use Rattle.spans.proofs.Fill.{swept-begin, swept-turn, swept-end}
 use Rattle.map.proofs.Steady.{bounds-most}
-use Rattle.map.proofs.Turns.{ActiveFrom, active-from}
+use Rattle.map.proofs.Turns.{active-from}
 use Rattle.map.proofs.fill.sweep.Goals as goal
 
 pub loop-at-init : goal.loop-at-init

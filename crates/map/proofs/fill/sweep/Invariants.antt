@@ -2,16 +2,10 @@
 -- inner loop's is that whatever memory it had so when the inner loop began, it has so now.
 use mathlib.Core.List.{List}
 use Prim.Native.Nat.{ℕ, ◌-◌, ◌≤◌}
-use native.Mathlib.Omega.{arith}
-use borrow.Author.Rules.{rules}
 use Rattle.regions.specs.Rights.{rights_word}
-use Rattle.regions.specs.Words.{most_regions}
 use Rattle.spans.specs.Sweep.{bounds_of}
-use Rattle.spans.proofs.Sweep.{Turn}
-use Rattle.spans.proofs.Fill.{Swept, swept-begin, swept-turn, swept-end}
+use Rattle.spans.proofs.Fill.{Swept}
 use Rattle.map.specs.Bounds.{pairs_of}
-use Rattle.map.proofs.Steady.{bounds-most}
-use Rattle.map.proofs.Turns.{ActiveFrom, active-from}
 use Rattle.map.proofs.fill.sweep.Given as goal
 
 abbrev pub invariant-loop-at-2 : goal.invariant-loop-at-2

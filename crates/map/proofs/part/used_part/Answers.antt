@@ -1,7 +1,6 @@
 -- `map::part::used_part` meets its contract.
 use mathlib.Core.Path.{sym}
 use lib.Seq.{length-take-le}
-use borrow.Author.Rules.{rules}
 use borrow.Author.Tests.{le-leb, lt-leb}
 use Rattle.map.specs.Part.{used_part}
 use Rattle.map.proofs.part.used_part.Goals as goal

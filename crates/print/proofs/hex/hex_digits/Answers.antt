@@ -1,5 +1,4 @@
 -- `print::hex::hex_digits` meets its contract: nothing passes 64 bits, and the bytes are the digits.
-use borrow.Author.Rules.{rules}
 use native.Mathlib.Omega.{arith}
 use Rattle.print.proofs.HexDigits.{hex-digits, digits-most, letters-most, low-most, low_part}
 use Rattle.print.proofs.hex.hex_digits.Goals as goal

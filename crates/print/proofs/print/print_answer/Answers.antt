@@ -1,5 +1,4 @@
 -- `print::print::print_answer` meets its contract: its parts, one after the other, are the line.
-use borrow.Author.Rules.{rules}
 use native.Mathlib.Omega.{arith}
 use lib.ListN.{length-append}
 use Rattle.print.specs.Print.{answer_line, decimal_text}

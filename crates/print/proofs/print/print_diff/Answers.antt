@@ -1,5 +1,4 @@
 -- `print::print::print_diff` meets its contract: its parts, one after the other, are the line.
-use borrow.Author.Rules.{rules}
 use native.Mathlib.Omega.{arith}
 use lib.ListN.{length-append}
 use Rattle.print.specs.Print.{decimal_text, diff_line}

@@ -1,5 +1,4 @@
 -- `print::print::print_labelled` meets its contract: its parts, one after the other, are the line.
-use borrow.Author.Rules.{rules}
 use native.Mathlib.Omega.{arith}
 use Rattle.print.specs.Print.{decimal_text, label_line}
 use Rattle.print.proofs.Digits.{label-length}

@@ -1,12 +1,12 @@
 -- `print::print::put` meets its contract. A turn's store is lib.Seq's `paste-suc`.
 use borrow.Author.Rules.{rules}
-use mathlib.Core.Path.{◌≡◌, refl, ap, ◌∙◌}
+use mathlib.Core.Path.{refl, ap, ◌∙◌}
 use mathlib.Core.List.{List}
-use Prim.Native.Nat.{ℕ, ◌+◌, ◌≤◌, ◌-◌}
+use Prim.Native.Nat.{ℕ, ◌+◌}
 use native.Mathlib.Numerals.{add-one}
 use native.Mathlib.Omega.{arith}
-use lib.ListN.{length, get_or, set, length-set}
-use lib.Seq.{paste, paste-zero, paste-suc}
+use lib.ListN.{get_or, set, length-set}
+use lib.Seq.{paste-zero, paste-suc}
 use Rattle.print.proofs.Writing.{copied}
 use Rattle.print.proofs.print.put.Goals as goal
 

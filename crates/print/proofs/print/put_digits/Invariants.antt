@@ -1,7 +1,5 @@
 -- `print::print::put_digits` meets its contract: the digits written, with those left, are all of them.
-use borrow.Author.Rules.{rules}
-use lib.ListN.{length-set}
-use Rattle.print.proofs.Digits.{Left, all_left, decimal-is, none_left, one_less}
+use Rattle.print.proofs.Digits.{Left}
 use Rattle.print.proofs.print.put_digits.Given as goal
 
 abbrev pub invariant-loop-k : goal.invariant-loop-k

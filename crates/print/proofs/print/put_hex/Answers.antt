@@ -1,5 +1,4 @@
 -- `print::print::put_hex` meets its contract: the digits, and the byte behind them.
-use borrow.Author.Rules.{rules}
 use native.Mathlib.Omega.{arith}
 use Rattle.print.proofs.Writing.{join, one}
 use Rattle.print.proofs.print.put_hex.Goals as goal

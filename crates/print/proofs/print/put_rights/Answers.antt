@@ -1,5 +1,4 @@
 -- `print::print::put_rights` meets its contract: eight digits, and eight more.
-use borrow.Author.Rules.{rules}
 use mathlib.Core.List.{append_assoc}
 use native.Mathlib.Omega.{arith}
 use Rattle.print.proofs.HexDigits.{sixteen-digits}

@@ -1,5 +1,4 @@
 -- `print::print::put_value` meets its contract: a single digit behind its zeros, or all eight.
-use borrow.Author.Rules.{rules}
 use mathlib.Core.List.{append_assoc}
 use Rattle.print.proofs.HexDigits.{single-digit}
 use Rattle.print.proofs.Writing.{join}

@@ -1,9 +1,5 @@
 -- `print::print::width` meets its contract: the digits counted and those left are all of them.
-use borrow.Author.Rules.{rules}
-use mathlib.Core.Path.{◌≡◌}
-use Prim.Native.Nat.{◌+◌, ◌≤◌}
 use native.Mathlib.Omega.{arith}
-use Rattle.print.specs.Print.{width_of}
 use Rattle.print.proofs.Digits.{width_one, width-more, width-bound}
 use Rattle.print.proofs.print.width.Goals as goal
 

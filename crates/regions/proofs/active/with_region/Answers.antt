@@ -1,10 +1,8 @@
 -- `regions::active::with_region` meets its contract: each return is a way that the offset lies to the base region.
 use mathlib.Core.Bool.{cond}
-use mathlib.Core.Logic.{⊎_elim}
 use mathlib.Core.Path.{◌≡◌, ap, ◌∙◌}
 use Prim.Native.Nat.{ℕ, ◌+◌}
 use lib.Dec.{eqb}
-use borrow.Author.Rules.{rules}
 use borrow.Author.Tests.{eq-eqb, ne_eqb}
 use Rattle.regions.proofs.Inactive.{with-off, with-before, with-past, with-inside}
 use Rattle.regions.proofs.active.with_region.Goals as goal

@@ -1,4 +1,3 @@
-use borrow.Author.Rules.{rules}
 use Rattle.regions.specs.Admits.{as_heard}
 use Rattle.regions.proofs.admits.all_as_zero.Goals as goal
 

@@ -1,4 +1,3 @@
-use borrow.Author.Rules.{rules}
 use Rattle.regions.specs.Admits.{by_default}
 use Rattle.regions.proofs.admits.by_default.Goals as goal
 

@@ -1,4 +1,3 @@
-use borrow.Author.Rules.{rules}
 use borrow.Author.Tests.{eq-eqb, ne_eqb}
 use Rattle.regions.specs.Admits.{by_masks}
 use Rattle.regions.proofs.admits.by_masks.Goals as goal

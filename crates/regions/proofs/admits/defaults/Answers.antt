@@ -1,4 +1,3 @@
-use borrow.Author.Rules.{rules}
 use Rattle.regions.proofs.admits.defaults.Goals as goal
 
 pub returns-in-Axi : goal.returns-in-Axi

@@ -1,5 +1,4 @@
 -- `regions::ahead::end_ahead` meets its contract.
-use borrow.Author.Rules.{rules}
 use borrow.Author.Tests.{lt-ltb, le-ltb}
 use Rattle.regions.proofs.ahead.end_ahead.Goals as goal
 

@@ -1,6 +1,4 @@
 use mathlib.Core.Path.{ap, ◌∙◌}
-use borrow.Author.Rules.{rules}
-use borrow.Author.Tests.{not-true, not-false}
 use Rattle.regions.specs.Masks.{base_gathered, sub_gathered}
 use Rattle.regions.proofs.masks.base_gathered.Goals as goal
 

@@ -1,5 +1,4 @@
 -- `regions::masks::covers` meets its contract: what is not enabled covers nothing.
-use borrow.Author.Rules.{rules}
 use borrow.Author.Tests.{eq-eqb, ne_eqb}
 use Prim.Native.Nat.{◌/◌, ◌%◌, ◌^◌}
 use lib.ListN.{get_or}

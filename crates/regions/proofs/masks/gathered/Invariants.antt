@@ -1,9 +1,6 @@
-use mathlib.Core.Path.{◌≡◌, ◌∙◌}
+use mathlib.Core.Path.{◌≡◌}
 use Prim.Native.Nat.{◌≤◌, ◌-◌}
-use native.Mathlib.Omega.{arith}
-use borrow.Author.Rules.{rules}
 use Rattle.regions.specs.Masks.{masks, serving}
-use Rattle.regions.proofs.Gathered.{masks-more, masks-pass}
 use Rattle.regions.proofs.masks.gathered.Given as goal
 
 abbrev pub invariant-loop-x : goal.invariant-loop-x

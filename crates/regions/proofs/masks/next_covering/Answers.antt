@@ -1,9 +1,6 @@
 -- `regions::masks::next_covering` meets its contract: those passed by so far do not cover.
-use borrow.Author.Rules.{rules}
 use mathlib.Core.Path.{sym, ◌∙◌}
-use Prim.Native.Nat.{◌-◌, ◌≤◌}
 use native.Mathlib.Omega.{arith}
-use Rattle.regions.specs.Masks.{Passed}
 use Rattle.regions.proofs.Gathered.{pass-more, pass-none}
 use Rattle.regions.proofs.masks.next_covering.Goals as goal
 

@@ -1,9 +1,6 @@
-use borrow.Author.Rules.{rules}
 use mathlib.Core.Bool.{not}
 use mathlib.Core.Path.{◌≡◌, ap, ◌∙◌}
-use Prim.Native.Nat.{◌≤◌, ◌-◌}
 use native.Mathlib.Omega.{arith}
-use Rattle.words.specs.Bit.{bit}
 use Rattle.words.proofs.Laws.{bit-zero}
 use Rattle.regions.specs.Masks.{some_enabled}
 use Rattle.regions.proofs.Enabled.{enabled-more}

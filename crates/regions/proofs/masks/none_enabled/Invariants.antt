@@ -1,12 +1,7 @@
-use borrow.Author.Rules.{rules}
-use mathlib.Core.Bool.{not}
-use mathlib.Core.Path.{◌≡◌, ap, ◌∙◌}
+use mathlib.Core.Path.{◌≡◌}
 use Prim.Native.Nat.{◌≤◌, ◌-◌}
-use native.Mathlib.Omega.{arith}
 use Rattle.words.specs.Bit.{bit}
-use Rattle.words.proofs.Laws.{bit-zero}
 use Rattle.regions.specs.Masks.{some_enabled}
-use Rattle.regions.proofs.Enabled.{enabled-more}
 use Rattle.regions.proofs.masks.none_enabled.Given as goal
 
 abbrev pub invariant-loop-x : goal.invariant-loop-x

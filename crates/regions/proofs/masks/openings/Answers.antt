@@ -1,4 +1,3 @@
-use borrow.Author.Rules.{rules}
 use mathlib.Core.Path.{ap, ◌∙◌}
 use Rattle.words.proofs.Laws.{field_lt}
 use Rattle.regions.specs.Masks.{opening}

@@ -1,5 +1,3 @@
-use borrow.Author.Rules.{rules}
-use borrow.Author.Tests.{not-true, not-false}
 use Rattle.regions.specs.Masks.{sub_gathered}
 use Rattle.regions.proofs.masks.sub_gathered.Goals as goal
 

@@ -1,7 +1,5 @@
 use mathlib.Core.Path.{sym, ◌∙◌}
 use native.Mathlib.Omega.{arith}
-use borrow.Author.Rules.{rules}
-use borrow.Author.Tests.{not-true, not-false}
 use Rattle.regions.proofs.RightsBytes.{byte-none, byte-privileged, byte-unprivileged}
 use Rattle.regions.proofs.rights.byte.Goals as goal
 

@@ -1,6 +1,5 @@
 use mathlib.Core.Bool.{true, false}
 use native.Mathlib.Omega.{arith}
-use borrow.Author.Rules.{rules}
 use Rattle.regions.specs.Admits.{byte_at}
 use Rattle.regions.proofs.RightsBytes.{rights-join, rights-lt}
 use Rattle.regions.proofs.rights.half.Goals as goal

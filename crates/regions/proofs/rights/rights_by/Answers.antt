@@ -1,4 +1,3 @@
-use borrow.Author.Rules.{rules}
 use mathlib.Core.Path.{ap, ◌∙◌}
 use Rattle.regions.specs.Admits.{as_heard, rights_from}
 use Rattle.regions.specs.declared.admits.Admits.{Admits}

@@ -1,5 +1,4 @@
 use mathlib.Core.Path.{refl, ap, ◌∙◌}
-use borrow.Author.Rules.{rules}
 use borrow.Author.Tests.{lt-leb, le-leb}
 use Rattle.regions.specs.Admits.{as_heard, rights_from, by_masks}
 use Rattle.regions.specs.Ahead.{ahead_in}

@@ -1,5 +1,4 @@
 use mathlib.Core.Path.{refl}
-use borrow.Author.Rules.{rules}
 use Rattle.regions.proofs.RightsBytes.{rights-join}
 use Rattle.regions.proofs.rights.word.Goals as goal
 

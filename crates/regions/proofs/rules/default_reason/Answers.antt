@@ -1,4 +1,3 @@
-use borrow.Author.Rules.{rules}
 use borrow.Author.Tests.{not-true, not-false}
 use mathlib.Core.Path.{sym, refl, ◌∙◌}
 use Rattle.regions.proofs.Reasons.{default_none, default-compartment}

@@ -1,6 +1,3 @@
-use borrow.Author.Rules.{rules}
-use native.Mathlib.Omega.{arith}
-use mathlib.Core.Path.{◌≡◌, ap, ◌∙◌}
 use Rattle.regions.proofs.AdmitsTests.{default-bit}
 use Rattle.regions.proofs.rules.is_default.Goals as goal
 

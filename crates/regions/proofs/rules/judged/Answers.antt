@@ -1,4 +1,3 @@
-use borrow.Author.Rules.{rules}
 use Rattle.regions.specs.Admits.{verdict_of}
 use Rattle.regions.proofs.rules.judged.Goals as goal
 

@@ -1,6 +1,5 @@
 use mathlib.Core.Path.{sym, ◌∙◌}
-use borrow.Author.Rules.{rules}
-use borrow.Author.Tests.{not-true, not-false, eq-eqb, ne_eqb}
+use borrow.Author.Tests.{eq-eqb, ne_eqb}
 use Rattle.regions.proofs.Reasons.{for-security, for-privilege, for-compartment, for-none}
 use Rattle.regions.proofs.rules.reason.Goals as goal
 

@@ -1,6 +1,5 @@
 -- `regions::scan::base_scanned` meets its contract: each return is a way that the offset lies to the base region.
 use mathlib.Core.Path.{refl}
-use borrow.Author.Rules.{rules}
 use borrow.Author.Tests.{eq-eqb, ne_eqb, lt-ltb, le-ltb, lt-leb, le-leb}
 use Rattle.regions.specs.Ahead.{base_ahead}
 use Rattle.regions.specs.Masks.{base_gathered}

@@ -1,6 +1,5 @@
 -- `regions::scan::inside_scanned` meets its contract.
 use mathlib.Core.Path.{ap, ◌∙◌}
-use borrow.Author.Rules.{rules}
 use Rattle.regions.specs.Ahead.{sub_ahead}
 use Rattle.regions.specs.Masks.{sub_gathered}
 use Rattle.regions.proofs.scan.inside_scanned.Goals as goal

@@ -1,11 +1,9 @@
 -- `regions::scan::scanned` meets its contract. The loop's invariant: what the base regions passed say, and what they have ahead.
-use mathlib.Core.Bool.{false}
 use mathlib.Core.Path.{◌≡◌}
-use Prim.Native.Nat.{◌≤◌, ◌-◌}
 use native.Mathlib.Omega.{arith}
 use borrow.Author.Rules.{rules}
 use Rattle.regions.specs.Ahead.{ahead}
-use Rattle.regions.specs.Masks.{masks, openings}
+use Rattle.regions.specs.Masks.{masks}
 use Rattle.regions.proofs.Gathered.{masks-more}
 use Rattle.regions.proofs.Lies.{ahead_more}
 use Rattle.regions.proofs.scan.scanned.Goals as goal

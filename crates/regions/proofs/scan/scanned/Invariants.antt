@@ -2,12 +2,8 @@
 use mathlib.Core.Bool.{false}
 use mathlib.Core.Path.{◌≡◌}
 use Prim.Native.Nat.{◌≤◌, ◌-◌}
-use native.Mathlib.Omega.{arith}
-use borrow.Author.Rules.{rules}
 use Rattle.regions.specs.Ahead.{ahead}
 use Rattle.regions.specs.Masks.{masks, openings}
-use Rattle.regions.proofs.Gathered.{masks-more}
-use Rattle.regions.proofs.Lies.{ahead_more}
 use Rattle.regions.proofs.scan.scanned.Given as goal
 
 abbrev pub invariant-loop-x : goal.invariant-loop-x

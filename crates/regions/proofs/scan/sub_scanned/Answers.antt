@@ -1,6 +1,5 @@
 -- `regions::scan::sub_scanned` meets its contract: each return is a way that the offset lies to the subregion.
 use mathlib.Core.Path.{◌∙◌}
-use borrow.Author.Rules.{rules}
 use borrow.Author.Tests.{eq-eqb, ne_eqb}
 use Rattle.regions.specs.Ahead.{sub_ahead}
 use Rattle.regions.specs.Words.{sub}

@@ -1,5 +1,4 @@
 -- `response::line::obey` meets its contract: each kind of line by its own function.
-use borrow.Author.Rules.{rules}
 use borrow.Enum.Refused.{opened}
 use Rattle.script.specs.Command.{command_of}
 use Rattle.response.proofs.Obeyed.{bad-line, event-line, map-line}

@@ -1,5 +1,4 @@
 -- `response::line::obey_event` meets its contract: what `apply` gives, and its answer printed.
-use borrow.Author.Rules.{rules}
 use Rattle.response.proofs.Written.{same_answer}
 use Rattle.response.proofs.line.obey_event.Goals as goal
 

@@ -1,5 +1,4 @@
 -- `response::line::put_bad` meets its contract: there is room for the line.
-use borrow.Author.Rules.{rules}
 use native.Mathlib.Omega.{arith}
 use Rattle.print.specs.Bytes.{bytes}
 use Rattle.response.proofs.Written.{labelled}

@@ -1,5 +1,4 @@
 -- `response::line::respond` meets its contract: without room nothing, else the line obeyed.
-use borrow.Author.Rules.{rules}
 use native.Mathlib.Omega.{arith}
 use Rattle.response.proofs.Obeyed.{no_room, with-room}
 use Rattle.response.proofs.line.respond.Goals as goal

@@ -1,5 +1,4 @@
 -- `response::sheet::put_answer` meets its contract: there is room for an answer.
-use borrow.Author.Rules.{rules}
 use Rattle.response.proofs.Written.{answered}
 use Rattle.response.proofs.sheet.put_answer.Goals as goal
 

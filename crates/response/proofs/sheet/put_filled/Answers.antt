@@ -1,5 +1,4 @@
 -- `response::sheet::put_filled` meets its contract: the sheet where the map is made, else its answer.
-use borrow.Author.Rules.{rules}
 use Rattle.response.proofs.Sheets.{made-few, made-map, refused-map}
 use Rattle.response.proofs.sheet.put_filled.Goals as goal
 

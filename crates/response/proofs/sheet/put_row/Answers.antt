@@ -1,5 +1,4 @@
 -- `response::sheet::put_row` meets its contract: there is room for a row.
-use borrow.Author.Rules.{rules}
 use Rattle.response.proofs.Written.{spanned}
 use Rattle.response.proofs.sheet.put_row.Goals as goal
 

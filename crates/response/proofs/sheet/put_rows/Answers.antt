@@ -1,12 +1,6 @@
 -- `response::sheet::put_rows` meets its contract: the rows so far, and then one more.
-use borrow.Author.Rules.{rules}
 use native.Mathlib.Omega.{arith}
-use mathlib.Core.Path.{◌≡◌, refl, ◌∙◌}
-use Prim.Native.Nat.{◌≤◌, ◌-◌}
-use lib.ListN.{length}
-use Rattle.print.specs.Parts.{Wrote}
-use Rattle.spans.specs.Rows.{rows_in}
-use Rattle.response.specs.Sheet.{span_lines}
+use mathlib.Core.Path.{refl, ◌∙◌}
 use Rattle.response.proofs.Written.{no_rows, one-row, rows-length, same_count}
 use Rattle.response.proofs.sheet.put_rows.Goals as goal
 

@@ -1,5 +1,4 @@
 -- `response::sheet::put_sheet` meets its contract: there is room for its lines, one after the other.
-use borrow.Author.Rules.{rules}
 use native.Mathlib.Omega.{arith}
 use Prim.Native.Nat.{◌/◌}
 use lib.ListN.{length}

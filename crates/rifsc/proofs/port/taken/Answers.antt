@@ -1,4 +1,3 @@
-use borrow.Author.Rules.{rules}
 use Rattle.rifsc.specs.Port.{takes}
 use Rattle.words.specs.Bit.{masked, less}
 use Rattle.rifsc.proofs.PortLaws.{priv-taken, rimc-taken, attr-taken}

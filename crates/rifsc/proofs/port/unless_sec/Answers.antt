@@ -1,4 +1,3 @@
-use borrow.Author.Rules.{rules}
 use Rattle.rifsc.proofs.port.unless_sec.Goals as goal
 
 pub returns-then-secure : goal.returns-then-secure

@@ -1,4 +1,3 @@
-use borrow.Author.Rules.{rules}
 use Rattle.rifsc.specs.Registers.{ppsr}
 use Rattle.rifsc.proofs.registers.ppsr.Goals as goal
 

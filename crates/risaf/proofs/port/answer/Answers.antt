@@ -1,4 +1,3 @@
-use borrow.Author.Rules.{rules}
 use Rattle.risaf.specs.Port.{allowed_of, answer_of, checks_of, read_of}
 use Rattle.risaf.proofs.port.answer.Goals as goal
 

@@ -1,4 +1,3 @@
-use borrow.Author.Rules.{rules}
 use Rattle.risaf.proofs.port.locked.Goals as goal
 
 pub returns-in-Glock : goal.returns-in-Glock

@@ -1,4 +1,3 @@
-use borrow.Author.Rules.{rules}
 use Rattle.risaf.proofs.port.may_write.Goals as goal
 
 pub returns-then-row : goal.returns-then-row

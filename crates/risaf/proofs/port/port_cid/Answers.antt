@@ -1,4 +1,3 @@
-use borrow.Author.Rules.{rules}
 use Rattle.risaf.proofs.port.port_cid.Goals as goal
 
 pub returns-in-Axi : goal.returns-in-Axi

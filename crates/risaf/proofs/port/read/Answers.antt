@@ -1,12 +1,11 @@
 -- `risaf::port::read` meets its contract, by the kind of register.
-use mathlib.Core.Path.{◌≡◌, ◌∙◌, refl, sym, ap}
+use mathlib.Core.Path.{◌∙◌, refl, sym, ap}
 use Prim.Native.Nat.{◌%◌}
-use borrow.Author.Tests.{eq-eqb, ne_eqb, not-true, not-false}
+use borrow.Author.Tests.{ne_eqb, not-true, not-false}
 use Rattle.risaf.specs.Port.{read_answer, read_reached}
 use Rattle.risaf.specs.Rows.{Placed, row_of}
 use Rattle.risaf.proofs.PortLaws.{reading}
 use Rattle.risaf.proofs.RegisterMap.{register-placed}
-use borrow.Author.Rules.{rules}
 use Rattle.risaf.proofs.port.read.Goals as goal
 
 pub returns-then-not-shape : goal.returns-then-not-shape

@@ -1,4 +1,3 @@
-use borrow.Author.Rules.{rules}
 use Rattle.risaf.proofs.PortLaws.{cfgr-is}
 use Rattle.risaf.proofs.port.sub_cfgr_written.Goals as goal
 

@@ -1,4 +1,3 @@
-use borrow.Author.Rules.{rules}
 use native.Mathlib.Omega.{arith}
 use Rattle.risaf.proofs.PortLaws.{bit_kept, bit-dropped}
 use Rattle.risaf.proofs.port.with_bit_if.Goals as goal

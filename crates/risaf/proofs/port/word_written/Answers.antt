@@ -1,4 +1,3 @@
-use borrow.Author.Rules.{rules}
 use Rattle.risaf.specs.Port.{word_in}
 use Rattle.words.proofs.Masks.{united-masked, less-masked}
 use Rattle.risaf.proofs.port.word_written.Goals as goal

@@ -1,8 +1,6 @@
 -- `risaf::registers::region_at` meets its contract.
 use native.Mathlib.Omega.{arith}
-use Rattle.risaf.specs.Registers.{region_at}
 use Rattle.risaf.proofs.RegisterMap.{in_block, no_block}
-use borrow.Author.Rules.{rules}
 use Rattle.risaf.proofs.registers.region_at.Goals as goal
 
 pub returns-in-64-to-767 : goal.returns-in-64-to-767

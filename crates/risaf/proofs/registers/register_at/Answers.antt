@@ -1,4 +1,3 @@
-use borrow.Author.Rules.{rules}
 use mathlib.Core.Path.{sym, ap, ◌∙◌}
 use Rattle.risaf.specs.Registers.{register_at}
 use Rattle.risaf.proofs.RegisterMap.{region-at}

@@ -1,4 +1,3 @@
-use borrow.Author.Rules.{rules}
 use Rattle.risaf.proofs.RegisterMap.{register-placed}
 use Rattle.risaf.proofs.rows.row_at.Goals as goal
 

@@ -1,4 +1,3 @@
-use borrow.Author.Rules.{rules}
 use Rattle.risaf.specs.Rows.{row_of}
 use Rattle.risaf.proofs.rows.row_of.Goals as goal
 

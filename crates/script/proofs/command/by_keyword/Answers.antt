@@ -1,8 +1,7 @@
 -- `script::command::by_keyword` meets its contract: the keyword that the line begins with says which line it is.
 use mathlib.Core.Bool.{Bool, ◌&&◌}
 use mathlib.Core.Path.{refl, sym, ap, ◌∙◌}
-use native.Mathlib.Omega.{arith}
-use lib.Dec.{eqb, lit≤}
+use lib.Dec.{eqb}
 use lib.ListN.{length}
 use Rattle.print.specs.Bytes.{bytes}
 use Rattle.script.specs.Command.{by_keyword, lines_of}

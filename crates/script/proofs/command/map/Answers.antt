@@ -1,12 +1,9 @@
 -- `script::command::map` meets its contract: each field read so far says how the line goes on.
-use borrow.Author.Rules.{rules}
-use Prim.Native.Nat.{◌+◌}
 use native.Mathlib.Omega.{arith}
 use lib.Dec.{eqb}
 use lib.ListN.{length}
 use Rattle.script.specs.Command.{map_line}
 use Rattle.script.specs.Fields.{fields_of}
-use Rattle.script.specs.Places.{Starts}
 use Rattle.script.specs.declared.command.Command.TheVariants.{Bad}
 use Rattle.script.proofs.Places.{its-count, other-count}
 use Rattle.script.proofs.Readings.{decimal-none, decimal-read, decimal-next, either_way}

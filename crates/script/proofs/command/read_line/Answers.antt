@@ -1,5 +1,4 @@
 -- `script::command::read_line` meets its contract.
-use borrow.Author.Rules.{rules}
 use borrow.Author.Tests.{le-leb, lt-leb}
 use Rattle.script.specs.Command.{command_of}
 use Rattle.script.specs.Fields.{line_most}

@@ -1,16 +1,7 @@
 -- `script::events::block_at` meets its contract: the blocks compared so far leave the others.
-use borrow.Author.Rules.{rules}
-use borrow.Author.Tests.{not-true, not-false}
-use mathlib.Core.Path.{◌≡◌, refl, sym, ◌∙◌}
-use Prim.Native.Nat.{◌+◌}
+use mathlib.Core.Path.{sym, ◌∙◌}
 use native.Mathlib.Omega.{arith}
-use lib.Dec.{lit≤}
 use Rattle.device.specs.declared.event.Block.TheVariants.{Risaf}
-use Rattle.script.specs.Command.{number_or, register_line, request_fields}
-use Rattle.script.specs.Fields.{field_at, fields_of}
-use Rattle.script.specs.Numbers.{decimal_of}
-use Rattle.script.specs.Places.{Starts}
-use Rattle.script.specs.declared.command.Command.TheVariants.{Bad}
 use Rattle.script.proofs.Keywords.{is-rifsc, is-iac, is-risaf, no_block}
 use Rattle.script.proofs.Told.{told}
 use Rattle.script.proofs.Readings.{decimal-none, decimal-read, decimal-next, request-there}

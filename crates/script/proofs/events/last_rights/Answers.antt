@@ -1,8 +1,6 @@
 -- `script::events::last_rights` meets its contract: each field read so far says how the line goes on.
-use borrow.Author.Rules.{rules}
 use Prim.Native.Char.{code}
-use Prim.Native.Nat.{ℕ, ◌+◌}
-use mathlib.Core.List.{List}
+use Prim.Native.Nat.{◌+◌}
 use native.Mathlib.Omega.{arith}
 use lib.Dec.{eqb, lit<}
 use lib.ListN.{length}

@@ -1,19 +1,12 @@
 -- `script::events::master` meets its contract: each field read so far says how the line goes on.
-use borrow.Author.Rules.{rules}
 use Prim.Native.Char.{code}
-use Prim.Native.Nat.{ℕ, ◌+◌}
-use mathlib.Core.List.{List}
-use mathlib.Core.Path.{◌≡◌}
 use native.Mathlib.Omega.{arith}
 use lib.Dec.{eqb, lit<}
 use lib.ListN.{length}
 use Rattle.script.specs.Command.{master_line, target_fields, write_of}
-use Rattle.script.specs.Fields.{field_at, fields_of}
-use Rattle.script.specs.Numbers.{decimal_of, hex_of}
-use Rattle.script.specs.Places.{Starts}
+use Rattle.script.specs.Fields.{fields_of}
+use Rattle.script.specs.Numbers.{hex_of}
 use Rattle.script.specs.declared.command.Command.TheVariants.{Bad}
-use Rattle.script.specs.declared.numbers.Choice.TheVariants.{Made}
-use Rattle.script.specs.declared.numbers.Number.TheVariants.{Value}
 use Rattle.script.proofs.Places.{its-count, other-count}
 use Rattle.script.proofs.Readings.{there, decimal-none, decimal-read, decimal-next, hex-next, either-next, either_way}
 use Rattle.script.proofs.events.master.Goals as goal

@@ -1,22 +1,16 @@
 -- `script::events::memory` meets its contract: each field read so far says how the line goes on.
-use borrow.Author.Rules.{rules}
 use Prim.Native.Char.{code}
-use Prim.Native.Nat.{ℕ, ◌+◌}
 use mathlib.Core.Bool.{false}
-use mathlib.Core.List.{List}
 use mathlib.Core.Logic.{⊎_elim}
 use mathlib.Core.Path.{◌≡◌, ◌∙◌}
 use native.Mathlib.Omega.{arith}
 use lib.Dec.{eqb, lit<}
 use lib.ListN.{length}
 use Rattle.script.specs.Command.{memory_line, rights_fields, target_fields, write_of}
-use Rattle.script.specs.Fields.{field_at, fields_of}
-use Rattle.script.specs.Numbers.{decimal_of, hex_of}
-use Rattle.script.specs.Places.{Starts}
+use Rattle.script.specs.Fields.{fields_of}
+use Rattle.script.specs.Numbers.{hex_of}
 use Rattle.script.specs.declared.command.Command.TheVariants.{Bad}
 use Rattle.script.specs.declared.events.Rights.TheVariants.{NoRights}
-use Rattle.script.specs.declared.numbers.Choice.TheVariants.{Made}
-use Rattle.script.specs.declared.numbers.Number.TheVariants.{Value}
 use Rattle.script.proofs.Told.{told}
 use Rattle.script.proofs.Readings.{there, decimal-none, decimal-read, decimal-next, hex-next, either-next, either_way, rights-there, no-rights, some-rights}
 use Rattle.script.proofs.events.memory.Goals as goal

@@ -1,5 +1,4 @@
 -- `script::events::register` meets its contract.
-use borrow.Author.Rules.{rules}
 use mathlib.Core.Path.{sym, ap, ◌∙◌}
 use Rattle.script.specs.Blocks.{block_line}
 use Rattle.script.specs.declared.events.BlockField.{BlockField}

@@ -1,10 +1,7 @@
 -- `script::fields::begins` meets its contract: what is left to compare decides.
-use borrow.Author.Rules.{rules}
-use mathlib.Core.Path.{◌≡◌, sym, ◌∙◌}
-use Prim.Native.Nat.{◌+◌, ◌≤◌, ◌-◌}
+use mathlib.Core.Path.{sym, ◌∙◌}
 use native.Mathlib.Omega.{arith}
-use lib.ListN.{length}
-use Rattle.script.proofs.Begins.{left, begins-short, begins-four, begins-other, begins-differs, begins-step, begins-all}
+use Rattle.script.proofs.Begins.{begins-short, begins-four, begins-other, begins-differs, begins-step, begins-all}
 use Rattle.script.proofs.fields.begins.Goals as goal
 
 pub returns-then-line-from : goal.returns-then-line-from

@@ -1,10 +1,8 @@
 -- `script::fields::begins` meets its contract: what is left to compare decides.
-use borrow.Author.Rules.{rules}
-use mathlib.Core.Path.{◌≡◌, sym, ◌∙◌}
+use mathlib.Core.Path.{◌≡◌}
 use Prim.Native.Nat.{◌+◌, ◌≤◌, ◌-◌}
-use native.Mathlib.Omega.{arith}
 use lib.ListN.{length}
-use Rattle.script.proofs.Begins.{left, begins-short, begins-four, begins-other, begins-differs, begins-step, begins-all}
+use Rattle.script.proofs.Begins.{left}
 use Rattle.script.proofs.fields.begins.Given as goal
 
 abbrev pub invariant-loop-i : goal.invariant-loop-i

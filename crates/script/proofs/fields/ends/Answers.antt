@@ -1,5 +1,4 @@
 -- `script::fields::ends` meets its contract.
-use borrow.Author.Rules.{rules}
 use borrow.Author.Tests.{lt-ltb, le-ltb}
 use Rattle.script.proofs.fields.ends.Goals as goal
 

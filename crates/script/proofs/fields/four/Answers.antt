@@ -1,5 +1,4 @@
 -- `script::fields::four` meets its contract.
-use borrow.Author.Rules.{rules}
 use Prim.Native.Nat.{◌+◌}
 use native.Mathlib.Omega.{arith}
 use Rattle.script.proofs.fields.four.Goals as goal

@@ -1,15 +1,12 @@
 -- `script::numbers::hex` meets its contract: what is done to the eight bytes at once is done to each.
-use borrow.Author.Rules.{rules}
-use mathlib.Core.List.{List}
 use mathlib.Core.Path.{◌≡◌, refl, sym, ap, ◌∙◌}
-use Prim.Native.Nat.{ℕ, ◌+◌, ◌*◌, ◌/◌, ◌^◌, ◌≤◌}
+use Prim.Native.Nat.{◌+◌, ◌*◌, ◌/◌, ◌^◌}
 use native.Mathlib.Omega.{arith}
 use lib.Bits.{bit_and, and_le_r}
 use lib.ListN.{take, drop}
 use Rattle.script.specs.Numbers.{hex_of}
 use Rattle.script.proofs.Gathered.{lower_bytes, lower_pairs}
 use Rattle.script.proofs.HexWord.{each, digits_in, digits-most, shown-most, hex-not-low, hex-not-good, hex-good, hex-value, bytes_at, taken, bytes-known, eight-packed}
-use Rattle.script.proofs.Packed.{packed, Bytes}
 use Rattle.script.proofs.numbers.hex.Goals as goal
 
 pub returns-then-digits-ne0 : goal.returns-then-digits-ne0

@@ -1,6 +1,4 @@
 -- `script::numbers::hex_at` meets its contract.
-use borrow.Author.Rules.{rules}
-use borrow.Author.Tests.{not-true, not-false}
 use mathlib.Core.Path.{◌∙◌}
 use Prim.Native.Nat.{◌+◌}
 use Rattle.script.proofs.Fixed.{hex-fixed, not_there, read-there}

@@ -1,5 +1,5 @@
 -- `stream::blocks::end-line` meets its contract: where the place moved, the first byte of the text tells.
-use Rattle.std.proofs.Common.{arith, rules}
+use Rattle.std.proofs.Common.{arith}
 use Rattle.stream.proofs.Obeyed.{moves-tell, stays-good, within}
 use Rattle.stream.proofs.blocks.end_line.Goals as goal
 

@@ -1,5 +1,5 @@
 -- `stream::blocks::has_room` meets its contract: behind the end there is no room.
-use Rattle.std.proofs.Common.{◌+◌, length, sym, arith, rules}
+use Rattle.std.proofs.Common.{◌+◌, length, sym, arith}
 use borrow.Author.Tests.{lt-leb}
 use Rattle.response.specs.Response.{most}
 use Rattle.stream.proofs.Obeyed.{room-left}

@@ -1,5 +1,4 @@
 -- `stream::blocks::take` meets its contract: refused, from line to line, or a begun line first.
-use Rattle.std.proofs.Common.{rules}
 use Rattle.stream.specs.Kept.{kept_of}
 use Rattle.stream.proofs.Begun.{calls, calls-lines, refuses-held, refuses-memory}
 use Rattle.stream.proofs.blocks.take.Goals as goal

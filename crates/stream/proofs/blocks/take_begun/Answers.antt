@@ -1,6 +1,5 @@
 -- `stream::blocks::take_begun` meets its contract: the begun line, as far as it is kept, and then the lines behind it.
 use Rattle.std.proofs.Common.{refl, sym, ◌∙◌, arith, length-take-le, rules}
-use borrow.Author.Tests.{not-false, not-true}
 use Rattle.stream.specs.Kept.{kept_of}
 use Rattle.stream.proofs.Begun.{begun-bad, begun-fits, begun-full, begun-last, begun-on, more}
 use Rattle.stream.proofs.Turns.{end-within}

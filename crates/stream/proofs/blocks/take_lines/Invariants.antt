@@ -1,12 +1,9 @@
 -- `stream::blocks::take_lines` meets its contract: from each line the call stops where it stops from the first.
-use Rattle.std.proofs.Common.{◌≡◌, ◌-◌, ◌≤◌, length, drop, refl, ◌∙◌, arith, rules}
+use Rattle.std.proofs.Common.{◌≡◌, ◌-◌, ◌≤◌, length, drop}
 use Rattle.stream.specs.Blocks.{place_at, stop}
 use Rattle.stream.specs.Feeds.{line_end}
 use Rattle.stream.specs.Kept.{kept_of, nothing_of}
 use Rattle.stream.specs.Transcript.{lines_in}
-use Rattle.stream.proofs.Obeyed.{moves, stays, stays-left}
-use Rattle.stream.proofs.Stops.{goes-on, part_left, stops-bad, stops-full, stops-last}
-use Rattle.stream.proofs.Turns.{part}
 use Rattle.stream.proofs.blocks.take_lines.Given as goal
 
 abbrev pub invariant-loop-end : goal.invariant-loop-end

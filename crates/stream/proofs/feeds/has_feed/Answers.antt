@@ -1,5 +1,5 @@
 -- `stream::feeds::has_feed` meets its contract: eight bytes, the first at i + 0.
-use Rattle.std.proofs.Common.{◌≡◌, ◌+◌, arith, rules}
+use Rattle.std.proofs.Common.{◌≡◌, ◌+◌, arith}
 use Rattle.stream.proofs.feeds.has_feed.Goals as goal
 
 pub returns : goal.returns

@@ -1,6 +1,5 @@
 -- `stream::feeds::line_end` meets its contract: the bytes passed so far are no feeds.
-use Rattle.std.proofs.Common.{◌≡◌, ◌-◌, ◌≤◌, length, sym, ◌∙◌, arith, rules}
-use Rattle.stream.specs.Feeds.{line_end}
+use Rattle.std.proofs.Common.{sym, ◌∙◌, arith}
 use Rattle.stream.proofs.Ends.{ends-past}
 use Rattle.stream.proofs.feeds.line_end.Goals as goal
 

@@ -1,7 +1,6 @@
 -- `stream::feeds::line_end` meets its contract: the bytes passed so far are no feeds.
-use Rattle.std.proofs.Common.{◌≡◌, ◌-◌, ◌≤◌, length, sym, ◌∙◌, arith, rules}
+use Rattle.std.proofs.Common.{◌≡◌, ◌-◌, ◌≤◌, length}
 use Rattle.stream.specs.Feeds.{line_end}
-use Rattle.stream.proofs.Ends.{ends-past}
 use Rattle.stream.proofs.feeds.line_end.Given as goal
 
 abbrev pub invariant-loop-i : goal.invariant-loop-i

@@ -1,6 +1,5 @@
 -- `stream::feeds::line_end_near` meets its contract: the bytes passed so far are no feeds.
-use Rattle.std.proofs.Common.{◌≡◌, ◌-◌, ◌≤◌, length, ◌∙◌, arith, rules, ne_eqb}
-use Rattle.stream.specs.Feeds.{line_end}
+use Rattle.std.proofs.Common.{◌∙◌, arith, ne_eqb}
 use Rattle.stream.proofs.Ends.{ends-at-feed, ends-later, ends-with-block}
 use Rattle.stream.proofs.feeds.line_end_near.Goals as goal
 

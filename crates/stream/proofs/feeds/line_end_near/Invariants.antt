@@ -1,7 +1,6 @@
 -- `stream::feeds::line_end_near` meets its contract: the bytes passed so far are no feeds.
-use Rattle.std.proofs.Common.{◌≡◌, ◌-◌, ◌≤◌, length, ◌∙◌, arith, rules, ne_eqb}
+use Rattle.std.proofs.Common.{◌≡◌, ◌-◌, ◌≤◌, length}
 use Rattle.stream.specs.Feeds.{line_end}
-use Rattle.stream.proofs.Ends.{ends-at-feed, ends-later, ends-with-block}
 use Rattle.stream.proofs.feeds.line_end_near.Given as goal
 
 abbrev pub invariant-loop-i : goal.invariant-loop-i

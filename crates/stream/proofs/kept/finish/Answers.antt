@@ -1,5 +1,4 @@
 -- `stream::kept::finish` meets its contract: `bad` where bytes are kept.
-use Rattle.std.proofs.Common.{rules}
 use Rattle.stream.proofs.Memory.{end-bad, end_empty}
 use Rattle.stream.proofs.kept.finish.Goals as goal
 

@@ -1,8 +1,6 @@
 -- `stream::kept::keep` meets its contract: so many bytes copied so far.
-use Rattle.std.proofs.Common.{◌≡◌, ◌-◌, ◌≤◌, length, refl, ◌∙◌, arith, length-set, rules}
-use lib.Seq.{paste, paste-zero}
-use Rattle.device.proofs.Parts.{paste_more}
-use Rattle.stream.proofs.Memory.{kept-all}
+use Rattle.std.proofs.Common.{◌≡◌, ◌-◌, ◌≤◌, length}
+use lib.Seq.{paste}
 use Rattle.stream.proofs.kept.keep.Given as goal
 
 abbrev pub invariant-loop-i : goal.invariant-loop-i

@@ -1,4 +1,3 @@
-use borrow.Author.Rules.{rules}
 use native.Mathlib.Omega.{arith}
 use Rattle.access.proofs.Answers.{number-most}
 use Rattle.access.proofs.answer.Answer.encoded.Goals as goal

@@ -1,4 +1,3 @@
-use borrow.Author.Rules.{rules}
 use Rattle.access.proofs.bus.Bus.hears_cid.Goals as goal
 
 pub returns-in-Axi : goal.returns-in-Axi

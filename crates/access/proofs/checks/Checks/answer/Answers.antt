@@ -1,5 +1,4 @@
 -- `access::checks::Checks::answer` meets its contract: the first test that fails, with those before it passed.
-use borrow.Author.Rules.{rules}
 use borrow.Author.Tests.{not-true, not-false}
 use Rattle.access.specs.Checks.{answered_with}
 use Rattle.access.proofs.checks.Checks.answer.Goals as goal

@@ -1,4 +1,3 @@
-use borrow.Author.Rules.{rules}
 use Rattle.batch.proofs.batches.Batched.encoded.Goals as goal
 
 pub returns-in-Done : goal.returns-in-Done

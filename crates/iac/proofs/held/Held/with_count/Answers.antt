@@ -1,4 +1,3 @@
-use borrow.Author.Rules.{rules}
 use Rattle.iac.specs.Held.{with_count}
 use Rattle.iac.proofs.held.Held.with_count.Goals as goal
 

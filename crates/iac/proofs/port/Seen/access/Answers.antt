@@ -5,7 +5,6 @@ use borrow.Author.Tests.{eq-eqb, ne_eqb, not-true, not-false}
 use Rattle.access.specs.Checks.{answered_with, reached_with}
 use Rattle.iac.specs.Port.{accessed, answer_of, checks_of}
 use Rattle.iac.proofs.PortLaws.{read_left, write-left}
-use borrow.Author.Rules.{rules}
 use Rattle.iac.proofs.port.Seen.access.Goals as goal
 
 pub returns-then-not-q : goal.returns-then-not-q

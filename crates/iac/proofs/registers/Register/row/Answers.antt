@@ -1,4 +1,3 @@
-use borrow.Author.Rules.{rules}
 use Rattle.iac.specs.Registers.{row_of}
 use Rattle.iac.proofs.registers.Register.row.Goals as goal
 

@@ -3,7 +3,6 @@ use mathlib.Core.Path.{◌∙◌, sym}
 use Prim.Native.Nat.{◌%◌}
 use borrow.Author.Tests.{eq-eqb, ne_eqb, not-true, not-false}
 use Rattle.iac.specs.Port.{read_answer, read_of}
-use borrow.Author.Rules.{rules}
 use Rattle.iac.proofs.registers.Row.read.Goals as goal
 
 pub returns-then-q-ne0 : goal.returns-then-q-ne0

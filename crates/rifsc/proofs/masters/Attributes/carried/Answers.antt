@@ -1,4 +1,3 @@
-use borrow.Author.Rules.{rules}
 use Rattle.rifsc.specs.Masters.{carried}
 use Rattle.rifsc.proofs.masters.Attributes.carried.Goals as goal
 

@@ -1,12 +1,10 @@
 -- `rifsc::port::Seen::access` meets its contract: the first test that fails, with those before it passed.
-use mathlib.Core.Bool.{not, ◌&&◌, ◌||◌}
 use mathlib.Core.Path.{◌∙◌}
 use Prim.Native.Nat.{◌%◌}
 use borrow.Author.Tests.{eq-eqb, ne_eqb, not-true, not-false}
 use Rattle.access.specs.Checks.{answered_with, reached_with}
 use Rattle.rifsc.specs.Port.{accessed, answer_of, checks_of}
 use Rattle.rifsc.proofs.PortLaws.{read_left, write-left}
-use borrow.Author.Rules.{rules}
 use Rattle.rifsc.proofs.port.Seen.access.Goals as goal
 
 pub returns-then-not-q : goal.returns-then-not-q

@@ -1,4 +1,3 @@
-use borrow.Author.Rules.{rules}
 use Rattle.rifsc.specs.Registers.{row_of}
 use Rattle.rifsc.proofs.registers.Register.row.Goals as goal
 

@@ -2,7 +2,6 @@
 use Prim.Native.Nat.{◌%◌}
 use borrow.Author.Tests.{eq-eqb, ne_eqb, not-true, not-false}
 use Rattle.rifsc.specs.Port.{read_answer, read_of}
-use borrow.Author.Rules.{rules}
 use Rattle.rifsc.proofs.registers.Row.read.Goals as goal
 
 pub returns-then-offset-ne0 : goal.returns-then-offset-ne0

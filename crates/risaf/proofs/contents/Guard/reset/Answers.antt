@@ -1,12 +1,12 @@
 use mathlib.Core.List.{List}
 use mathlib.Core.Path.{◌≡◌, refl, sym, ap, ap₂, ◌∙◌}
-use Prim.Native.Nat.{ℕ, zero, suc, ◌+◌, ◌*◌, ◌≤◌, ◌-◌, ◌/◌}
+use Prim.Native.Nat.{ℕ, ◌+◌, ◌*◌}
 use native.Mathlib.Numerals.{add-one}
 use native.Mathlib.Omega.{arith}
-use lib.ListN.{set, replicate}
+use lib.ListN.{set}
 use borrow.Author.Rules.{rules}
 use Rattle.regions.specs.Words.{subregion_words, end_at}
-use Rattle.risaf.specs.Contents.{regions_words, reset}
+use Rattle.risaf.specs.Contents.{reset}
 use Rattle.risaf.specs.Guards.{low_bits}
 use Rattle.risaf.proofs.contents.Guard.reset.Goals as goal
 use Rattle.risaf.proofs.contents.Guard.reset.Invariants.{count, reset_to}

@@ -1,13 +1,9 @@
 use mathlib.Core.List.{List}
-use mathlib.Core.Path.{◌≡◌, refl, sym, ap, ap₂, ◌∙◌}
+use mathlib.Core.Path.{◌≡◌}
 use Prim.Native.Nat.{ℕ, zero, suc, ◌+◌, ◌*◌, ◌≤◌, ◌-◌, ◌/◌}
-use native.Mathlib.Numerals.{add-one}
-use native.Mathlib.Omega.{arith}
 use lib.ListN.{set, replicate}
-use borrow.Author.Rules.{rules}
 use Rattle.regions.specs.Words.{subregion_words, end_at}
-use Rattle.risaf.specs.Contents.{regions_words, reset}
-use Rattle.risaf.specs.Guards.{low_bits}
+use Rattle.risaf.specs.Contents.{regions_words}
 use Rattle.risaf.proofs.contents.Guard.reset.Given as goal
 
 -- how many base regions and subregions there are

@@ -1,8 +1,5 @@
-use Prim.Native.Nat.{◌≤◌}
 use native.Mathlib.Omega.{arith}
-use borrow.Author.Rules.{rules}
 use borrow.Author.Tests.{ne_eqb}
-use mir.Val.{bool_byte}
 use Rattle.regions.proofs.Digits.{byte-most, byte_one}
 use Rattle.risaf.specs.Memory.{recorded_fault}
 use Rattle.risaf.specs.Rows.{of_head}

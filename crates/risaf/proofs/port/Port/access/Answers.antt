@@ -1,4 +1,3 @@
-use borrow.Author.Rules.{rules}
 use Rattle.risaf.specs.Port.{accessed}
 use Rattle.risaf.proofs.port.Port.access.Goals as goal
 

@@ -1,4 +1,3 @@
-use borrow.Author.Rules.{rules}
 use Rattle.risaf.specs.Port.{port_in}
 use Rattle.risaf.proofs.port.Port.at.Goals as goal
 

@@ -1,4 +1,3 @@
-use borrow.Author.Rules.{rules}
 use Rattle.risaf.specs.Rows.{of_base}
 use Rattle.risaf.proofs.registers.BaseField.row.Goals as goal
 

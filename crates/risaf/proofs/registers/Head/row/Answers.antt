@@ -1,4 +1,3 @@
-use borrow.Author.Rules.{rules}
 use Rattle.risaf.specs.Rows.{of_head}
 use Rattle.risaf.proofs.registers.Head.row.Goals as goal
 

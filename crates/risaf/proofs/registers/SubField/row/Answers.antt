@@ -1,4 +1,3 @@
-use borrow.Author.Rules.{rules}
 use Rattle.risaf.specs.Rows.{of_sub}
 use Rattle.risaf.proofs.registers.SubField.row.Goals as goal
 

@@ -1,8 +1,6 @@
 -- `risaf::rows::Row::read` meets its contract: the first test that fails, with those before it passed.
-use mathlib.Core.Bool.{not, ◌&&◌, ◌||◌}
 use borrow.Author.Tests.{not-true, not-false}
 use Rattle.risaf.specs.Port.{read_of, read_reached}
-use borrow.Author.Rules.{rules}
 use Rattle.risaf.proofs.rows.Row.read.Goals as goal
 
 pub returns-then-not-self : goal.returns-then-not-self
