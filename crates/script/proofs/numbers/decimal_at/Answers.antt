@@ -54,9 +54,9 @@ pub loop-i-preserved : goal.loop-i-preserved
 loop-i-preserved c =
     let more = or-not _ _ c.if-n-is_decimal.false in
     let next = told c.is_decimal-in-loop-i.ensures more.1 in
-    let step : reads_on (c.args.line.now) (10 * c.loop-i.n + ((get_or (c.args.line.now) c.loop-i.i 0) - 48)) (c.loop-i.i + 1) ≡ decimal_at (c.args.line.now) c.args.from = let l = c.loop-i in decimal_step (c.args.line.now) l.n l.i c.loop-i-test.true c.if-b-eq9.false (omega (arith, eqb-false l.n 0 more.0)) next ∙ l.invariant.2 in
+    let onward : reads_on (c.args.line.now) (10 * c.loop-i.n + ((get_or (c.args.line.now) c.loop-i.i 0) - 48)) (c.loop-i.i + 1) ≡ decimal_at (c.args.line.now) c.args.from = let l = c.loop-i in decimal_step (c.args.line.now) l.n l.i c.loop-i-test.true c.if-b-eq9.false (omega (arith, eqb-false l.n 0 more.0)) next ∙ l.invariant.2 in
     let w = c.loop-i-test.true in
-    (omega (arith, w), c.if-n-gt-NUMBER_MOST.false, step)
+    (omega (arith, w), c.if-n-gt-NUMBER_MOST.false, onward)
 
 pub returns : goal.returns
 returns c =
