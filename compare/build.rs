@@ -17,7 +17,7 @@ fn main() {
 fn proved() {
     let directory = match env::var_os("SUTHRAIN_LIB_DIR") {
         Some(directory) => PathBuf::from(directory),
-        None => PathBuf::from("../target/staticlib"),
+        None => PathBuf::from("../crates/capi/out"),
     };
     let archive = directory.join("libcapi.a");
     println!("cargo:rerun-if-changed={}", archive.display());
