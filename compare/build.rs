@@ -24,7 +24,7 @@ fn proved() {
     let directory = match directory.canonicalize() {
         Ok(directory) if archive.exists() => directory,
         _ => panic!(
-            "no {}: build it, or name its directory in SUTHRAIN_LIB_DIR",
+            "no {}: build it by `rt lib` in crates/capi, or name its directory in SUTHRAIN_LIB_DIR",
             archive.display()
         ),
     };
