@@ -1,6 +1,8 @@
-ghost use Rattle.std.specs.Prelude.{◌≡◌, ◌+◌, ◌*◌, ◌-◌, ◌≤◌, ◌<◌, min, length};
+ghost use Rattle.std.specs.Prelude.{◌≡◌, ◌+◌, ◌*◌, ◌-◌, ◌≤◌, ◌<◌, min, [], length, take, drop, OnOk};
+ghost use Rattle.std.specs.Io.KnownBytes.{IsAtEnd};
 ghost use Rattle.response.specs.Response.{most};
-ghost use Rattle.stream.specs.Kept.{line_room};
+ghost use Rattle.stream.specs.Kept.{kept_of, line_room};
+ghost use Rattle.suthrain.specs.Runs.{IfWritten, OnEnded, Part, Step};
 
 use crate::output::flush;
 use std::io;
@@ -35,8 +37,8 @@ struct Place {
 
 // Takes as much of the block as there is room for. Where that is nothing, what is filled is written out, and the next turn takes some: so
 // each turn brings the block's end nearer.
-fn take_part(
-    output: &mut impl Write,
+fn take_part<W: Write>(
+    output: &mut W,
     state: &mut [u32],
     block: &[u8],
     line: &mut [u8],
@@ -44,8 +46,12 @@ fn take_part(
     place: Place,
 ) -> Place
     requires { (length line.old ≡ line_room) × (most ≤ length out.old) × (place.held.bytes ≤ line_room) × (place.from < length block.now) }
-    ensures { (result.held.bytes ≤ line_room) × (result.from ≤ length block.now)
+    ensures nearer { (result.held.bytes ≤ line_room) × (result.from ≤ length block.now)
         × (2 * (length block.now - result.from) + min 1 result.at < 2 * (length block.now - place.from) + min 1 place.at) }
+    ensures rising { place.from ≤ result.from }
+    ensures part { OnOk result.written (Part (kept_of place.held line.old state.old) (kept_of result.held line.new state.new)
+        (take (result.from - place.from) (drop place.from block.now)) (W.contents output.old) (W.contents output.new)
+        (take place.at out.old) (take result.at out.new)) }
 {
     let from = place.from;
     let at = place.at;
@@ -55,7 +61,7 @@ fn take_part(
             held: taken.held,
             from,
             at: 0,
-            written: flush(output, out, at),
+            written: flush(output, out, taken.filled),
         };
     }
     Place {
@@ -66,17 +72,9 @@ fn take_part(
     }
 }
 
-// What follows on a block whose output was written, or not.
-fn next_after(written: io::Result<()>) -> Next {
-    match written {
-        Ok(()) => Next::More,
-        Err(error) => Next::Unwritten(error),
-    }
-}
-
 // Takes a block, and writes out what is filled.
-fn take_block(
-    output: &mut impl Write,
+fn take_block<W: Write>(
+    output: &mut W,
     state: &mut [u32],
     block: &[u8],
     line: &mut [u8],
@@ -84,7 +82,10 @@ fn take_block(
     held: Held,
 ) -> Going
     requires { (length line.old ≡ line_room) × (most ≤ length out.old) × (held.bytes ≤ line_room) }
-    ensures { result.held.bytes ≤ line_room }
+    ensures few { result.held.bytes ≤ line_room }
+    ensures part { IfWritten result.next (Part (kept_of held line.old state.old) (kept_of result.held line.new state.new) block.now
+        (W.contents output.old) (W.contents output.new) [] []) }
+    ensures more { OnEnded result.next ⊥ }
 {
     let mut place = Place {
         held,
@@ -92,24 +93,31 @@ fn take_block(
         at: 0,
         written: Ok(()),
     };
-    while place.written.is_ok() && place.from < block.len() {
+    while place.from < block.len() {
         place = take_part(output, state, block, line, out, place);
+        if let Err(error) = place.written {
+            return Going {
+                held: place.held,
+                next: Next::Unwritten(error),
+            };
+        }
     }
-    let at = place.at;
-    let written = match place.written {
-        Ok(()) => flush(output, out, at),
-        Err(error) => Err(error),
-    };
-    Going {
-        held: place.held,
-        next: next_after(written),
+    match flush(output, out, place.at) {
+        Ok(()) => Going {
+            held: place.held,
+            next: Next::More,
+        },
+        Err(error) => Going {
+            held: place.held,
+            next: Next::Unwritten(error),
+        },
     }
 }
 
 // Reads a block and takes it.
-pub(crate) fn read_block(
-    input: &mut impl Read,
-    output: &mut impl Write,
+pub(crate) fn read_block<R: Read, W: Write>(
+    input: &mut R,
+    output: &mut W,
     state: &mut [u32],
     block: &mut [u8],
     line: &mut [u8],
@@ -117,7 +125,10 @@ pub(crate) fn read_block(
     held: Held,
 ) -> Going
     requires { (length line.old ≡ line_room) × (most ≤ length out.old) × (held.bytes ≤ line_room) }
-    ensures { result.held.bytes ≤ line_room }
+    ensures few { result.held.bytes ≤ line_room }
+    ensures step { IfWritten result.next (Step (kept_of held line.old state.old) (kept_of result.held line.new state.new)
+        (R.remaining input.old) (R.remaining input.new) (W.contents output.old) (W.contents output.new)) }
+    ensures end { OnEnded result.next (0 < length block.old → IsAtEnd (R.remaining input.new)) }
 {
     match input.read(block) {
         Ok(0) => Going {

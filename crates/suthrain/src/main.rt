@@ -4,9 +4,11 @@
 mod blocks;
 mod output;
 
-ghost use Rattle.std.specs.Prelude.{◌≡◌, ◌≤◌, length};
+ghost use Rattle.std.specs.Prelude.{◌≡◌, ◌<◌, ◌≤◌, length, IfOk, IsTrue, OnOk};
+ghost use Rattle.std.specs.Io.KnownBytes.{IsAtEnd};
 ghost use Rattle.response.specs.Response.{most};
-ghost use Rattle.stream.specs.Kept.{line_room};
+ghost use Rattle.stream.specs.Kept.{kept_at_start, kept_of, line_room};
+ghost use Rattle.suthrain.specs.Runs.{Step, Transcribed};
 
 use blocks::{Next, read_block};
 use output::{fail, flush};
@@ -14,23 +16,34 @@ use std::env::FillError;
 use std::io;
 use std::io::{Read, Write};
 use std::rt::Env;
-use stream::LINE_ROOM;
+use stream::{Held, LINE_ROOM};
 
 // How much is read at once, and how much is kept to be written at once.
 const BLOCK_ROOM: usize = 65_536;
 
-// Reads and takes block by block until the input ends or the output cannot be written, which is the error that it returns. A proved loop
-// has to end, and nothing says that the input does: so it counts its turns, up to a number that no run reaches.
-fn run(
-    input: &mut impl Read,
-    output: &mut impl Write,
+// What is kept behind all that was read, and whether that is the whole input.
+#[derive(Drop)]
+struct Ending {
+    held: Held,
+    whole: bool,
+}
+
+// Reads and takes block by block until the input ends or cannot be read, which is said on standard error. An error is that of the
+// output, which could not be written. A proved loop has to end, and nothing says that the input does: so it counts its turns, up to a
+// number that no run reaches.
+fn read_all<R: Read, W: Write>(
+    input: &mut R,
+    output: &mut W,
     errors: &mut impl Write,
     state: &mut [u32],
     block: &mut [u8],
     line: &mut [u8],
     out: &mut [u8],
-) -> io::Result<()>
+) -> io::Result<Ending>
     requires { (length line.old ≡ line_room) × (most ≤ length out.old) }
+    ensures step { IfOk result (λ e. Step (kept_at_start line.old state.old) (kept_of e.held line.new state.new)
+        (R.remaining input.old) (R.remaining input.new) (W.contents output.old) (W.contents output.new)) }
+    ensures end { IfOk result (λ e. IsTrue e.whole → 0 < length block.old → IsAtEnd (R.remaining input.new)) }
 {
     let mut held = stream::start(state);
     for _ in 0..u64::MAX {
@@ -38,16 +51,35 @@ fn run(
         held = going.held;
         match going.next {
             Next::More => {}
-            Next::Ended => break,
+            Next::Ended => return Ok(Ending { held, whole: true }),
             Next::Unread(error) => {
                 fail(errors, "standard input", &error);
-                break;
+                return Ok(Ending { held, whole: false });
             }
             Next::Unwritten(error) => return Err(error),
         }
     }
-    let at = stream::finish(held, out, 0);
-    flush(output, out, at)
+    Ok(Ending { held, whole: false })
+}
+
+// Reads the input to its end, and prints its transcript. Whether all of it could be read; an error is that of the output.
+fn run<R: Read, W: Write>(
+    input: &mut R,
+    output: &mut W,
+    errors: &mut impl Write,
+    state: &mut [u32],
+    block: &mut [u8],
+    line: &mut [u8],
+    out: &mut [u8],
+) -> io::Result<bool>
+    requires { (length line.old ≡ line_room) × (most ≤ length out.old) }
+    ensures transcribed { OnOk result (Transcribed (R.remaining input.old) (R.remaining input.new) (W.contents output.old) (W.contents output.new) state.old) }
+    ensures end { IfOk result (λ whole. IsTrue whole → 0 < length block.old → IsAtEnd (R.remaining input.new)) }
+{
+    let ending = read_all(input, output, errors, state, block, line, out)?;
+    let at = stream::finish(ending.held, out, 0);
+    flush(output, out, at)?;
+    Ok(ending.whole)
 }
 
 // Whether the program was started with an argument.

@@ -1,3 +1,6 @@
+ghost use Rattle.std.specs.Prelude.{◌≡◌, take, OnOk};
+ghost use Rattle.std.specs.Io.KnownBytes.{Appends};
+
 use std::io;
 use std::io::{Cursor, Write};
 
@@ -5,7 +8,9 @@ use std::io::{Cursor, Write};
 const TEXT_ROOM: usize = 256;
 
 // The first n bytes, or all of them where there are fewer.
-fn front(bytes: &[u8], n: usize) -> &[u8] {
+fn front(bytes: &[u8], n: usize) -> &[u8]
+    ensures { result.now ≡ take n bytes.now }
+{
     if n <= bytes.len() {
         return &bytes[..n];
     }
@@ -13,7 +18,9 @@ fn front(bytes: &[u8], n: usize) -> &[u8] {
 }
 
 // Writes the first `at` bytes.
-pub(crate) fn flush(output: &mut impl Write, out: &[u8], at: usize) -> io::Result<()> {
+pub(crate) fn flush<W: Write>(output: &mut W, out: &[u8], at: usize) -> io::Result<()>
+    ensures { OnOk result (Appends (W.contents output.old) (W.contents output.new) (take at out.now)) }
+{
     output.write_all(front(out, at))
 }
 
