@@ -17,14 +17,14 @@ fn main() {
 fn proved() {
     let directory = match env::var_os("SUTHRAIN_LIB_DIR") {
         Some(directory) => PathBuf::from(directory),
-        None => PathBuf::from("../target/staticlib"),
+        None => PathBuf::from("../crates/capi/out"),
     };
     let archive = directory.join("libcapi.a");
     println!("cargo:rerun-if-changed={}", archive.display());
     let directory = match directory.canonicalize() {
         Ok(directory) if archive.exists() => directory,
         _ => panic!(
-            "no {}: build it, or name its directory in SUTHRAIN_LIB_DIR",
+            "no {}: build it by `rt lib` in crates/capi, or name its directory in SUTHRAIN_LIB_DIR",
             archive.display()
         ),
     };

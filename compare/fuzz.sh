@@ -10,7 +10,7 @@
 set -eu
 cd "$(dirname "$0")"
 seconds=${1:-60}
-program=$(realpath "${2:-../target/bin/suthrain}")
+program=$(realpath "${2:-../crates/suthrain/out/suthrain}")
 work=target/fuzz
 runtime=/usr/lib/afl/afl-compiler-rt.o
 

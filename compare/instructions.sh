@@ -9,10 +9,10 @@
 # growth   the whole program on 100,000 to 4,000,000 mixed lines: instructions of a line, seconds of the user's time, memory
 #
 # By hand, not in the gate: growth takes minutes, the others one. Needs valgrind and GNU time, from Debian's packages. The variable
-# PROGRAM names another proved program than target/bin/suthrain.
+# PROGRAM names another proved program than crates/suthrain/out/suthrain.
 set -eu
 cd "$(dirname "$0")"
-program=$(realpath "${PROGRAM:-../target/bin/suthrain}")
+program=$(realpath "${PROGRAM:-../crates/suthrain/out/suthrain}")
 work=target/instructions
 mkdir -p "$work"
 cargo build --quiet --release --features proved --bin count

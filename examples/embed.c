@@ -1,5 +1,5 @@
 /* A guard programmed, asked and mapped. From the repository's root:
-   gcc -I include examples/embed.c target/staticlib/libcapi.a -o embed && ./embed */
+   gcc -I include examples/embed.c crates/capi/out/libcapi.a -o embed && ./embed */
 #include "suthrain.h"
 #include <inttypes.h>
 #include <stdio.h>

@@ -1,8 +1,13 @@
 // What differs between the maps of each guard of two states, printed.
+use crate::failure::front;
 use diff::used_part;
-use libc::STDOUT_FILENO;
 use risaf::{GUARD_NUMBERS, GuardNumber};
 use script::{print_diff, print_end, print_guard};
+use std::io;
+use std::io::Write;
+
+// Room for a sheet.
+const SHEET_ROOM: usize = 65_536;
 
 // The lines of the rows of a result, from `at` on. The place after them.
 fn put_rows(out: &mut [u8], at: usize, rows: &[u64]) -> usize {
@@ -42,44 +47,48 @@ fn put_guard(out: &mut [u8], old: &[u32], new: &[u32], guard: GuardNumber) -> us
     print_end(out, b, (rows.len() / diff::fill::ROW_NUMBERS) as u64)
 }
 
-// The first n bytes, or all of them where there are fewer.
-fn front(bytes: &[u8], n: usize) -> &[u8] {
-    if n <= bytes.len() {
-        return &bytes[..n];
-    }
-    bytes
-}
-
-// Prints the sheet of a guard. Whether it could.
-fn print_sheet(out: &mut [u8], old: &[u32], new: &[u32], guard: GuardNumber) -> bool {
+// Prints the sheet of a guard.
+fn print_sheet(
+    output: &mut impl Write,
+    out: &mut [u8],
+    old: &[u32],
+    new: &[u32],
+    guard: GuardNumber,
+) -> io::Result<()> {
     let at = put_guard(out, old, new, guard);
-    let fine = io::write_all(STDOUT_FILENO, front(out, at));
-    if !fine {
-        os::fail(b"standard output");
-    }
-    fine
+    output.write_all(front(out, at))
 }
 
-// Prints the sheet of guard n, if there is one. Whether it could be printed.
-fn print_number(out: &mut [u8], old: &[u32], new: &[u32], n: u32) -> bool {
+// Prints the sheet of guard n, if there is one.
+fn print_number(
+    output: &mut impl Write,
+    out: &mut [u8],
+    old: &[u32],
+    new: &[u32],
+    n: u32,
+) -> io::Result<()> {
     let guard = GuardNumber(n);
     let shape = guard.shape();
     if !shape.there {
-        return true;
+        return Ok(());
     }
-    print_sheet(out, old, new, guard)
+    print_sheet(output, out, old, new, guard)
 }
 
 // Prints the sheets of all guards, in rising number.
-fn print_sheets(out: &mut [u8], old: &[u32], new: &[u32]) {
+fn print_sheets(
+    output: &mut impl Write,
+    out: &mut [u8],
+    old: &[u32],
+    new: &[u32],
+) -> io::Result<()> {
     for n in 0..GUARD_NUMBERS {
-        if !print_number(out, old, new, n) {
-            return;
-        }
+        print_number(output, out, old, new, n)?;
     }
+    Ok(())
 }
 
-pub(crate) fn print(old: &[u32], new: &[u32]) {
-    let mut out = io::large_buffer();
-    print_sheets(&mut out, old, new);
+pub(crate) fn print(output: &mut impl Write, old: &[u32], new: &[u32]) -> io::Result<()> {
+    let mut out = [0u8; SHEET_ROOM];
+    print_sheets(output, &mut out, old, new)
 }

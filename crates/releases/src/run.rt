@@ -3,7 +3,11 @@ ghost use Rattle.std.specs.Prelude.{◌≡◌, ◌≤◌, ◌<◌, length};
 ghost use Rattle.response.specs.Response.{most};
 ghost use Rattle.stream.specs.Kept.{line_room};
 
-use libc::STDERR_FILENO;
+use crate::failure::fail;
+use std::fs::File;
+use std::io;
+use std::io::{ErrorKind, Read, Write};
+use std::rt::{Env, Files};
 use stream::{Held, LINE_ROOM, take};
 
 // What is kept from block to block, whether all before could be read and was good, and whether there may be more.
@@ -25,16 +29,18 @@ struct Place {
 // The longest path, and the byte that ends it.
 const PATH_ROOM: usize = 4096;
 
-// Names a line on standard error.
-fn name_bad(path: &[u8], number: u64) {
-    io::write_all(STDERR_FILENO, path);
-    io::write_all(STDERR_FILENO, b": line ");
-    io::print_decimal(STDERR_FILENO, number);
-    io::write_all(STDERR_FILENO, b" is bad\n");
+// How much is read at once, and room for what the lines print, which is dropped.
+const BLOCK_ROOM: usize = 65_536;
+
+// Names a line on standard error. Where that cannot be written, there is nowhere to say so.
+fn name_bad(errors: &mut impl Write, path: &[u8], number: u64) {
+    let _ = errors.write_all(path);
+    let _ = writeln!(errors, ": line {number} is bad");
 }
 
 // Takes some of the block, at most up to a bad line, which is named.
 fn take_part(
+    errors: &mut impl Write,
     path: &[u8],
     state: &mut [u32],
     block: &[u8],
@@ -46,14 +52,12 @@ fn take_part(
     ensures { (result.held.bytes ≤ line_room) × (place.from < result.from) × (result.from ≤ length block.now) }
 {
     let from = place.from;
-    let before = place.held;
-    let taken = take(before, state, line, &block[from..], out, 0);
-    let held = taken.held;
+    let taken = take(place.held, state, line, &block[from..], out, 0);
     if taken.bad {
-        name_bad(path, taken.which);
+        name_bad(errors, path, taken.which);
     }
     Place {
-        held,
+        held: taken.held,
         from: from + taken.took,
         good: place.good & !taken.bad,
     }
@@ -61,6 +65,7 @@ fn take_part(
 
 // Takes a block.
 fn take_block(
+    errors: &mut impl Write,
     path: &[u8],
     state: &mut [u32],
     block: &[u8],
@@ -71,18 +76,16 @@ fn take_block(
     requires { (length line.old ≡ line_room) × (most ≤ length out.old) × (going.held.bytes ≤ line_room) }
     ensures { result.held.bytes ≤ line_room }
 {
-    let before = going.held;
     let mut place = Place {
-        held: before,
+        held: going.held,
         from: 0,
         good: going.good,
     };
     while place.from < block.len() {
-        place = take_part(path, state, block, line, out, place);
+        place = take_part(errors, path, state, block, line, out, place);
     }
-    let held = place.held;
     Going {
-        held,
+        held: place.held,
         good: place.good,
         more: true,
     }
@@ -90,8 +93,9 @@ fn take_block(
 
 // Reads a block of a file and takes it.
 fn read_block(
+    errors: &mut impl Write,
     path: &[u8],
-    fd: i32,
+    file: &mut impl Read,
     state: &mut [u32],
     block: &mut [u8],
     line: &mut [u8],
@@ -101,27 +105,30 @@ fn read_block(
     requires { (length line.old ≡ line_room) × (most ≤ length out.old) × (going.held.bytes ≤ line_room) }
     ensures { result.held.bytes ≤ line_room }
 {
-    let got = libc::read(fd, block);
-    if got < 0 {
-        os::fail(path);
-    }
-    if got <= 0 {
-        let held = going.held;
-        return Going {
-            held,
-            good: going.good & (got == 0),
+    match file.read(block) {
+        Ok(0) => Going {
+            held: going.held,
+            good: going.good,
             more: false,
-        };
+        },
+        Ok(n) => take_block(errors, path, state, &block[..n], line, out, going),
+        Err(error) => {
+            fail(errors, path, &error);
+            Going {
+                held: going.held,
+                good: false,
+                more: false,
+            }
+        }
     }
-    let n = io::count(got, block);
-    take_block(path, state, &block[..n], line, out, going)
 }
 
 // Runs a file to its end, from reset. Whether it could be read and every line was good; a last line without a line feed is bad. A proved
-// loop has to end, and nothing says that the file does: so it counts its turns down, from a number that no run uses up.
+// loop has to end, and nothing says that the file does: so it counts its turns, up to a number that no run reaches.
 fn read(
+    errors: &mut impl Write,
     path: &[u8],
-    fd: i32,
+    file: &mut impl Read,
     state: &mut [u32],
     block: &mut [u8],
     line: &mut [u8],
@@ -134,33 +141,49 @@ fn read(
         good: true,
         more: true,
     };
-    let mut turns = u64::MAX;
-    while 0 < turns && going.more {
-        going = read_block(path, fd, state, block, line, out, going);
-        turns -= 1;
+    for _ in 0..u64::MAX {
+        going = read_block(errors, path, file, state, block, line, out, going);
+        if !going.more {
+            break;
+        }
     }
     let held = going.held;
     if 0 < held.bytes {
-        name_bad(path, held.number);
+        name_bad(errors, path, held.number);
         return false;
     }
     going.good
 }
 
-// Runs the script that argument i names. Whether it could be read and every line was good; else it is said on standard error.
-pub(crate) fn run(i: usize, state: &mut [u32]) -> bool {
-    let mut room = [0u8; PATH_ROOM];
-    let n = os::arg(i, &mut room);
-    let path = &room[..n];
-    let fd = os::open_read(path);
-    if fd < 0 {
-        os::fail(path);
-        return false;
+// Opens the file at a path, which std has as text.
+fn open<R: Files>(rt: &R, path: &[u8]) -> io::Result<R::File> {
+    match str::from_utf8(path) {
+        Ok(path) => File::open(rt, path),
+        Err(_) => Err(io::Error::from(ErrorKind::InvalidFilename)),
     }
-    let mut block = io::large_buffer();
+}
+
+// Runs the script that argument i names. Whether it could be read and every line was good; else it is said on standard error.
+pub(crate) fn run<R: Env + Files>(
+    rt: &R,
+    errors: &mut impl Write,
+    i: usize,
+    state: &mut [u32],
+) -> bool {
+    let mut room = [0u8; PATH_ROOM];
+    let n = rt.arg(i, &mut room).unwrap_or(0);
+    let path = &room[..n];
+    let mut file = match open(rt, path) {
+        Ok(file) => file,
+        Err(error) => {
+            fail(errors, path, &error);
+            return false;
+        }
+    };
+    let mut block = [0u8; BLOCK_ROOM];
     let mut line = [0u8; LINE_ROOM];
-    let mut out = io::large_buffer();
-    let good = read(path, fd, state, &mut block, &mut line, &mut out);
-    libc::close(fd);
-    good
+    let mut out = [0u8; BLOCK_ROOM];
+    read(
+        errors, path, &mut file, state, &mut block, &mut line, &mut out,
+    )
 }

@@ -1,17 +1,28 @@
-ghost use Rattle.std.specs.Prelude.{◌≡◌, ◌+◌, ◌*◌, ◌-◌, ◌≤◌, ◌<◌, min, length};
+ghost use Rattle.std.specs.Prelude.{◌≡◌, ◌+◌, ◌*◌, ◌-◌, ◌≤◌, ◌<◌, min, [], length, take, drop, OnOk};
+ghost use Rattle.std.specs.Io.KnownBytes.{IsAtEnd};
 ghost use Rattle.response.specs.Response.{most};
-ghost use Rattle.stream.specs.Kept.{line_room};
+ghost use Rattle.stream.specs.Kept.{kept_of, line_room};
+ghost use Rattle.suthrain.specs.Runs.{IfWritten, OnEnded, Part, Step};
 
 use crate::output::flush;
-use libc::STDIN_FILENO;
+use std::io;
+use std::io::{Read, Write};
 use stream::{Held, take};
 
-// What is kept from block to block, whether there may be more to read, and whether all before could be written.
+// How it goes on behind a block: there may be more to read, the input has ended, it could not be read, or the output not be written.
+#[derive(Drop)]
+pub enum Next {
+    More,
+    Ended,
+    Unread(io::Error),
+    Unwritten(io::Error),
+}
+
+// What is kept from block to block, and how it goes on.
 #[derive(Drop)]
 pub struct Going {
     pub held: Held,
-    pub more: bool,
-    pub fine: bool,
+    pub next: Next,
 }
 
 // Where the program stands in a block: what is kept, how much of the block is taken, how far the output is filled, and whether all before
@@ -21,12 +32,13 @@ struct Place {
     held: Held,
     from: usize,
     at: usize,
-    fine: bool,
+    written: io::Result<()>,
 }
 
 // Takes as much of the block as there is room for. Where that is nothing, what is filled is written out, and the next turn takes some: so
 // each turn brings the block's end nearer.
-fn take_part(
+fn take_part<W: Write>(
+    output: &mut W,
     state: &mut [u32],
     block: &[u8],
     line: &mut [u8],
@@ -34,55 +46,78 @@ fn take_part(
     place: Place,
 ) -> Place
     requires { (length line.old ≡ line_room) × (most ≤ length out.old) × (place.held.bytes ≤ line_room) × (place.from < length block.now) }
-    ensures { (result.held.bytes ≤ line_room) × (result.from ≤ length block.now)
+    ensures nearer { (result.held.bytes ≤ line_room) × (result.from ≤ length block.now)
         × (2 * (length block.now - result.from) + min 1 result.at < 2 * (length block.now - place.from) + min 1 place.at) }
+    ensures rising { place.from ≤ result.from }
+    ensures part { OnOk result.written (Part (kept_of place.held line.old state.old) (kept_of result.held line.new state.new)
+        (take (result.from - place.from) (drop place.from block.now)) (W.contents output.old) (W.contents output.new)
+        (take place.at out.old) (take result.at out.new)) }
 {
     let from = place.from;
-    let before = place.held;
-    let taken = take(before, state, line, &block[from..], out, place.at);
-    let held = taken.held;
+    let at = place.at;
+    let taken = take(place.held, state, line, &block[from..], out, at);
     if taken.took == 0 {
-        let fine = flush(out, place.at);
         return Place {
-            held,
+            held: taken.held,
             from,
             at: 0,
-            fine,
+            written: flush(output, out, taken.filled),
         };
     }
     Place {
-        held,
+        held: taken.held,
         from: from + taken.took,
         at: taken.filled,
-        fine: true,
+        written: Ok(()),
     }
 }
 
 // Takes a block, and writes out what is filled.
-fn take_block(state: &mut [u32], block: &[u8], line: &mut [u8], out: &mut [u8], held: Held) -> Going
+fn take_block<W: Write>(
+    output: &mut W,
+    state: &mut [u32],
+    block: &[u8],
+    line: &mut [u8],
+    out: &mut [u8],
+    held: Held,
+) -> Going
     requires { (length line.old ≡ line_room) × (most ≤ length out.old) × (held.bytes ≤ line_room) }
-    ensures { result.held.bytes ≤ line_room }
+    ensures few { result.held.bytes ≤ line_room }
+    ensures part { IfWritten result.next (Part (kept_of held line.old state.old) (kept_of result.held line.new state.new) block.now
+        (W.contents output.old) (W.contents output.new) [] []) }
+    ensures more { OnEnded result.next ⊥ }
 {
     let mut place = Place {
         held,
         from: 0,
         at: 0,
-        fine: true,
+        written: Ok(()),
     };
-    while place.fine && place.from < block.len() {
-        place = take_part(state, block, line, out, place);
+    while place.from < block.len() {
+        place = take_part(output, state, block, line, out, place);
+        if let Err(error) = place.written {
+            return Going {
+                held: place.held,
+                next: Next::Unwritten(error),
+            };
+        }
     }
-    let held = place.held;
-    let fine = place.fine && flush(out, place.at);
-    Going {
-        held,
-        more: fine,
-        fine,
+    match flush(output, out, place.at) {
+        Ok(()) => Going {
+            held: place.held,
+            next: Next::More,
+        },
+        Err(error) => Going {
+            held: place.held,
+            next: Next::Unwritten(error),
+        },
     }
 }
 
 // Reads a block and takes it.
-pub(crate) fn read_block(
+pub(crate) fn read_block<R: Read, W: Write>(
+    input: &mut R,
+    output: &mut W,
     state: &mut [u32],
     block: &mut [u8],
     line: &mut [u8],
@@ -90,19 +125,20 @@ pub(crate) fn read_block(
     held: Held,
 ) -> Going
     requires { (length line.old ≡ line_room) × (most ≤ length out.old) × (held.bytes ≤ line_room) }
-    ensures { result.held.bytes ≤ line_room }
+    ensures few { result.held.bytes ≤ line_room }
+    ensures step { IfWritten result.next (Step (kept_of held line.old state.old) (kept_of result.held line.new state.new)
+        (R.remaining input.old) (R.remaining input.new) (W.contents output.old) (W.contents output.new)) }
+    ensures end { OnEnded result.next (0 < length block.old → IsAtEnd (R.remaining input.new)) }
 {
-    let got = libc::read(STDIN_FILENO, block);
-    if got < 0 {
-        os::fail(b"standard input");
-    }
-    if got <= 0 {
-        return Going {
+    match input.read(block) {
+        Ok(0) => Going {
             held,
-            more: false,
-            fine: true,
-        };
+            next: Next::Ended,
+        },
+        Ok(n) => take_block(output, state, &block[..n], line, out, held),
+        Err(error) => Going {
+            held,
+            next: Next::Unread(error),
+        },
     }
-    let n = io::count(got, block);
-    take_block(state, &block[..n], line, out, held)
 }

@@ -1,0 +1,2 @@
+-- Runs: what a run of the program took and printed.
+pub mod Runs
