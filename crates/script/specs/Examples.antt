@@ -20,7 +20,7 @@ read : (command_of (bytes "mem\t2\t00000000\t4\tr\t1\ts\tp")
     × (command_of (bytes "map\t2") ≡ Map (record { 0 = 2 }))
     × (command_of [] ≡ Bad)
     × (command_of (bytes "map\t02") ≡ Bad)
-    × (command_of (bytes "reg\tiac\t0000000_c\tr\t00000000\ts\tp") ≡ Bad)
+    × (command_of (bytes "reg\tiac\t0000000C\tr\t00000000\ts\tp") ≡ Bad)
     × (command_of (bytes "reset\t") ≡ Bad)
 unfolding command_of by_keyword lines_of reset_line blocks_of request_fields peripheral_line memory_line master_line map_line rights_fields target_fields fields_of onto same every value_from hex_of decimal_of either_of operation_of
 read = (refl, refl, refl, refl, refl, refl)
