@@ -8,7 +8,7 @@ ghost use Rattle.device.specs.declared.event.Event.TheVariants.{Memory};
 use access::{Answer, Why};
 use device::{MemoryAccess, STATE_WORDS};
 
-// How a batch ends: an Answer that holds no enum, since the function that makes it is walked by hand.
+// How a batch ends: an Answer that holds no enum.
 #[derive(Clone, Copy)]
 pub enum Batched {
     Done(u32),
