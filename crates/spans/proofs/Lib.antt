@@ -1,7 +1,7 @@
 -- The laws of maps. For users of the crate:
 --     Maps         the map of f is a map: map-is-map, map-in-memory; and there is no other: is-the-map
 --     Canonical    two maps are equal exactly where their rights functions agree
---     Found        what a lookup finds in a map: lookup-finds, lookup-past; and where: at-place, whole-row
+--     Found        what a lookup finds in a map: lookup-finds, lookup-past; and where: at_place, whole_row
 --     Memory       rows as numbers, and rows over the front of numbers: filled-front, filled-rest, filled-length
 --     Steady       functions that change only at boundaries: Steady, steady-pairs
 --     Sweep        the map worked out from boundaries: swept-is-map; how many rows it has at most: rows-most; a turn that goes further: Turn

@@ -1,4 +1,4 @@
--- `stream::blocks::end-line` meets its contract: where the place moved, the first byte of the text tells.
+-- `stream::blocks::end_line` meets its contract: where the place moved, the first byte of the text tells.
 use Rattle.std.proofs.Common.{arith}
 use Rattle.stream.proofs.Obeyed.{moves-tell, stays-good, within}
 use Rattle.stream.proofs.blocks.end_line.Goals as goal
