@@ -1,9 +1,6 @@
-ghost use Rattle.std.specs.Prelude.{◌≡◌};
-ghost use Rattle.access.specs.Kind.{equals};
-
 // A compartment number, CID; never a guard's or a peripheral's number.
 #[repr(C)]
-#[derive(Clone, Copy)]
+#[derive(Clone, Copy, PartialEq, Eq)]
 pub struct Cid(pub u32);
 
 // The largest compartment number, and the debugger's: it passes every compartment test.
@@ -17,12 +14,4 @@ pub struct Kind {
     pub write: bool,
     pub privileged: bool,
     pub secure: bool,
-}
-
-impl Cid {
-    pub fn equals(self, other: Cid) -> bool
-        ensures { result ≡ equals self other }
-    {
-        self.0 == other.0
-    }
 }

@@ -1,6 +1,7 @@
 // What every block shares: how an access is asked, how it is answered, and in which order it is checked.
 #![tactic(auto)]
 
+pub mod accessed;
 pub mod answer;
 pub mod bus;
 pub mod checks;
@@ -8,6 +9,7 @@ pub mod flag;
 pub mod kind;
 pub mod request;
 
+pub use accessed::Accessed;
 pub use answer::{Answer, Why};
 pub use bus::Bus;
 pub use checks::Checks;
