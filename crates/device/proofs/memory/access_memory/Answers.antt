@@ -1,4 +1,3 @@
-use borrow.Enum.Refused.{opened}
 use mathlib.Core.Path.{ap, ◌∙◌}
 use Prim.Native.Nat.{◌<◌}
 use lib.ListN.{length}
@@ -16,7 +15,7 @@ returns-in_default c =
     let m = c.memory_checked-checked in
     let a = c.args in
     let all = memory-rejected (state_of a.state.now) a.there a.guard.0 a.o a.width a.k c.shape-shape.ensures m.ensures
-    (opened c.in_default.in_default-own.keys2) in
+    c.in_default.not-Done in
     record { answer = all.0; next = all.1 }
 
 pub returns-then-verdict-eq-NO_REASON : goal.returns-then-verdict-eq-NO_REASON

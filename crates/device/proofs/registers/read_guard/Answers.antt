@@ -8,7 +8,6 @@ use Rattle.risaf.proofs.Shapes.{place-lt}
 use Rattle.device.specs.Layout.{state_of}
 use Rattle.device.specs.State.{flagged}
 use Rattle.device.proofs.GuardSteps.{register-read-kept, register-read-refused}
-use borrow.Enum.Refused.{opened}
 use Rattle.device.proofs.registers.read_guard.Goals as goal
 
 pub read_register-answer-requires : goal.read_register-answer-requires
@@ -33,5 +32,5 @@ returns-in-Refused c =
 pub returns-in_default : goal.returns-in_default
 returns-in_default c =
     let t = state_of c.args.state.now in
-    let all = register-read-kept t c.args.guard c.args.q c.requires c.shape-shape.ensures c.read_register-answer.ensures (opened c.in_default.in_default-own.keys2) in
+    let all = register-read-kept t c.args.guard c.args.q c.requires c.shape-shape.ensures c.read_register-answer.ensures c.in_default.not-Refused in
     record { answer = all.0; next = all.1 }
