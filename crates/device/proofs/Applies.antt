@@ -18,8 +18,9 @@ module _ (e : Event) (m : List ℕ) where
   unfolding applied_answer applied_state
   other_length h = rw (ne_eqb (length m) state_words h) (refl, refl)
 
-  pub own-length : {a : Answer} {m' : List ℕ} → length m ≡ state_words → length m' ≡ length m → a ≡ (step e (state_of m)).answer
-      → state_of m' ≡ (step e (state_of m)).next → (a ≡ applied_answer e m) × (m' ≡ applied_state e m)
+  -- w is m as an array
+  pub own-length : {a : Answer} {w m' : List ℕ} → length m ≡ state_words → w ≡ m → length m' ≡ state_words → a ≡ (step e (state_of w)).answer
+      → state_of m' ≡ (step e (state_of w)).next → (a ≡ applied_answer e m) × (m' ≡ applied_state e m)
   unfolding applied_answer applied_state
-  own-length {a} {m'} h k answer next =
-      rw (eq-eqb (length m) state_words h) (answer, sym (layout_of m' (k ∙ h)) ∙ ap layout next)
+  own-length {m' = m'} h s k answer next =
+      rw (eq-eqb (length m) state_words h, ← s) (answer, sym (layout_of m' k) ∙ ap layout next)

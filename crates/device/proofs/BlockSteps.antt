@@ -3,9 +3,6 @@ use mathlib.Core.Bool.{Bool, true, false, cond}
 use mathlib.Core.Path.{◌≡◌, refl, sym, ap, ◌∙◌}
 use mathlib.Core.List.{[], ◌∷◌}
 use Prim.Native.Nat.{ℕ, ◌%◌}
-use types.Run.{OneOf, miss}
-use denote.Enum.Declared.{tag_of}
-use Rattle.access.specs.contracts.answer.Answer.{the_type}
 use lib.Dec.{eqb}
 use borrow.Author.Tests.{ne_eqb}
 use Rattle.access.specs.Answer.{left}
@@ -116,12 +113,12 @@ module _ (s : State) (q : Request) (w : q.write ≡ false) {reg : IacRegister} {
       → (a ≡ (register_step Iac q s).answer) × (t ≡ (register_step Iac q s).next)
   flags-read-refused d e = rw flags-reading (refl, rw d e)
 
-  pub flags-read-kept : OneOf (0 ∷ 2 ∷ []) (tag_of the_type a) → (a ≡ (register_step Iac q s).answer) × (s ≡ (register_step Iac q s).next)
+  pub flags-read-kept : ((x : ℕ) → a ≡ Refused x → ⊥) → (a ≡ (register_step Iac q s).answer) × (s ≡ (register_step Iac q s).next)
   flags-read-kept o = rw flags-reading (refl, by a o)
     where
-      by : (b : Answer) → OneOf (0 ∷ 2 ∷ []) (tag_of the_type b) → s ≡ (flagging b).next
+      by : (b : Answer) → ((x : ℕ) → b ≡ Refused x → ⊥) → s ≡ (flagging b).next
       by (Done x) o = refl
-      by (Refused x) o = absurd (miss (0 ∷ 2 ∷ []) 1 tt o)
+      by (Refused x) o = absurd (o x refl)
       by (Rejected y) o = refl
 
 module _ (s : State) (q : Request) {reg : IacRegister} {row : IacRow} {v : ℕ} {r : IacAccessed} (eg : reg ≡ iac-registers.register_at q.offset)

@@ -7,9 +7,6 @@ use native.Mathlib.Omega.{arith}
 use lib.ListN.{length}
 use lib.Seq.{set-get_or}
 use borrow.Author.Tests.{eq-eqb, ne_eqb}
-use types.Run.{OneOf, miss}
-use denote.Enum.Declared.{tag_of}
-use Rattle.access.specs.contracts.answer.Answer.{the_type}
 use Rattle.words.specs.Bit.{with_bit}
 use Rattle.access.specs.Answer.{left}
 use Rattle.access.specs.Bus.{heard}
@@ -117,15 +114,15 @@ module _ (s : State) (n : GuardNumber) (q : Request) (w : q.write ≡ false) {sh
   unfolding accessed
   read-answer = sym reads ∙ register-answer s n q es refl refl refl
 
-  pub register-read-kept : OneOf (0 ∷ 2 ∷ []) (tag_of the_type a)
+  pub register-read-kept : ((x : ℕ) → a ≡ Refused x → ⊥)
       → (a ≡ (register_step (Risaf n) q s).answer) × (s ≡ (register_step (Risaf n) q s).next)
   unfolding accessed
   register-read-kept o = (read-answer, by a reads o)
     where
-      by : (b : Answer) → answer_of shape row_read (port_in (guard_words read) row_read) q ≡ b → OneOf (0 ∷ 2 ∷ []) (tag_of the_type b)
+      by : (b : Answer) → answer_of shape row_read (port_in (guard_words read) row_read) q ≡ b → ((x : ℕ) → b ≡ Refused x → ⊥)
           → s ≡ (register_step (Risaf n) q s).next
       by (Done x) e o = register-read s n q es refl refl refl e w
-      by (Refused x) e o = absurd (miss (0 ∷ 2 ∷ []) 1 tt o)
+      by (Refused x) e o = absurd (o x refl)
       by (Rejected y) e o = register-rejected s n q es refl refl refl e
 
   pub register-read-refused : {t : State} {x v : ℕ} → a ≡ Refused x → v ≡ with_bit 32 read.iasr 0 true
@@ -156,14 +153,14 @@ module _ (s : State) (there : Bool) (n o width : ℕ) (k : Kind) {shape : Shape}
   by-verdict : (v : Verdict) → answer_by v ≡ onward a (ruled v)
   by-verdict v = answer-onward (there && shape.there) shape o width k v ∙ ap (λ (x : Answer). onward x (ruled v)) (sym ea)
 
-  pub memory-rejected : OneOf (1 ∷ 2 ∷ []) (tag_of the_type a)
+  pub memory-rejected : ((x : ℕ) → a ≡ Done x → ⊥)
       → (a ≡ (memory_step there n o width k s).answer) × (s ≡ (memory_step there n o width k s).next)
   memory-rejected t = rw (memory-is, by-verdict (decided shape.bus h.regions shape.regions o k)) (by a refl t)
     where
-      by : (b : Answer) → a ≡ b → OneOf (1 ∷ 2 ∷ []) (tag_of the_type b)
+      by : (b : Answer) → a ≡ b → ((x : ℕ) → b ≡ Done x → ⊥)
           → (b ≡ onward b (ruled (decided shape.bus h.regions shape.regions o k)))
           × (s ≡ (stepped_by (onward b (ruled (decided shape.bus h.regions shape.regions o k)))).next)
-      by (Done x) e t = absurd (miss (1 ∷ 2 ∷ []) 0 tt t)
+      by (Done x) e t = absurd (t x refl)
       by (Refused x) e t = absurd (checked-unrefused (there && shape.there) shape o width k (sym ea ∙ e))
       by (Rejected x) e t = (refl, refl)
 

@@ -21,7 +21,7 @@ module _ (a : MasterAccess) (m : List ℕ) where
   pub no-master : length m ≡ state_words → is_master a.master ≡ false
       → (Rejected NoSuch ≡ applied_answer (Master a) m) × (m ≡ applied_state (Master a) m)
   unfolding step memory_step memory_stepped memory_answer memory_checks answered_with
-  no-master h e = own-length (Master a) m h refl (rw e refl) (rw e refl)
+  no-master h e = own-length (Master a) m h refl h (rw e refl) (rw e refl)
 
   module _ (e : is_master a.master ≡ true) where
     as-memory : step (Master a) (state_of m) ≡ step (made_as a (carried_by a (state_of m))) (state_of m)

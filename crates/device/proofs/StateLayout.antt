@@ -6,6 +6,8 @@ use native.Mathlib.Omega.{arith}
 use lib.Dec.{lit<}
 use lib.ListN.{length, take, drop, get_or, set, replicate, take-append-drop, length-take, length-drop}
 use lib.Seq.{paste, length-paste, take_all, get_or-take, get_or-drop}
+use borrow.Rule.Slice.PartMut.{put_mid}
+use Rattle.std.proofs.lemmas.Slice.{put_mid-paste}
 use Rattle.risaf.specs.Contents.{head_words, guard_size, guard_words, guard_from}
 use Rattle.risaf.specs.Guards.{guard_count}
 use Rattle.rifsc.specs.declared.contents.Rifsc.{Rifsc}
@@ -85,7 +87,7 @@ pub record Heads (m : List ℕ) (ps : List (List ℕ)) (m' : List ℕ) : Type 0 
 pub heads-none : (m : List ℕ) → length m ≡ state_words → Heads m (parts_of head_sizes m) m
 heads-none m h = record { size = h; heads = refl; rest = refl }
 
-pub heads-more : {m m' m'' : List ℕ} {ps : List (List ℕ)} (k : ℕ) (w : List ℕ) → k < length head_sizes → length w ≡ get_or head_sizes k 0
+heads-more : {m m' m'' : List ℕ} {ps : List (List ℕ)} (k : ℕ) (w : List ℕ) → k < length head_sizes → length w ≡ get_or head_sizes k 0
     → Heads m ps m' → m'' ≡ paste m' (place_in head_sizes k) w (length w) → Heads m (set ps k w) m''
 heads-more {m} {m'} {m''} {ps} k w l e s q =
     let f = place-most head_sizes k l in
@@ -97,6 +99,11 @@ heads-more {m} {m'} {m''} {ps} k w l e s q =
           ∙ ap (λ (x : List (List ℕ)). set x k w) s.heads;
       rest = ap (drop guards_at) q ∙ paste-past m' (place_in head_sizes k) w guards_at (omega arith) (omega arith) ∙ s.rest;
     }
+
+-- words copied over a part
+pub heads-copied : {m m' ys : List ℕ} {ps : List (List ℕ)} (k : ℕ) (w : List ℕ) → k < length head_sizes → length w ≡ get_or head_sizes k 0
+    → ys ≡ w → Heads m ps m' → Heads m (set ps k w) (put_mid (place_in head_sizes k) (get_or head_sizes k 0) m' ys)
+heads-copied {m} {m'} {ys} k w l e y s = heads-more k w l e s (put_mid-paste _ _ m' ys w (length w) y e refl)
 
 -- a part of one word
 pub heads-word : {m m' m'' : List ℕ} {ps : List (List ℕ)} (k v : ℕ) → k < length head_sizes → 1 ≡ get_or head_sizes k 0
@@ -148,10 +155,10 @@ module _ {m m' : List ℕ} where
 
   pub rifsc-stored : (r : Rifsc)
       → Heads m
-      (set (set (set (set (set (set (parts_of head_sizes m) seccfgr_part r.seccfgr) privcfgr_part r.privcfgr) rcfglockr_part r.rcfglockr) attr_part
-      r.attr)
-      cr_part (r.cr ∷ []))
+      (set (set (set (set (set (set (parts_of head_sizes m) cr_part (r.cr ∷ [])) seccfgr_part r.seccfgr) privcfgr_part r.privcfgr) rcfglockr_part
+      r.rcfglockr)
       rimccr_part (r.rimccr ∷ []))
+      attr_part r.attr)
       m'
       → state_of m' ≡ with_rifsc (state_of m) r
   unfolding state_of parts_of
@@ -159,10 +166,10 @@ module _ {m m' : List ℕ} where
     where
       by : (gs : List (List ℕ))
           → state_from
-          (set (set (set (set (set (set (parts_of head_sizes m) seccfgr_part r.seccfgr) privcfgr_part r.privcfgr) rcfglockr_part r.rcfglockr) attr_part
-          r.attr)
-          cr_part (r.cr ∷ []))
+          (set (set (set (set (set (set (parts_of head_sizes m) cr_part (r.cr ∷ [])) seccfgr_part r.seccfgr) privcfgr_part r.privcfgr) rcfglockr_part
+          r.rcfglockr)
           rimccr_part (r.rimccr ∷ []))
+          attr_part r.attr)
           gs
           ≡ with_rifsc (state_from (parts_of head_sizes m) gs) r
       by gs = refl

@@ -1,6 +1,6 @@
-ghost use Rattle.std.specs.Prelude.{◌≡◌, length};
+ghost use Rattle.std.specs.Prelude.{◌≡◌};
 ghost use Rattle.device.specs.Applied.{applied_answer, applied_state, line_answer};
-ghost use Rattle.device.specs.Layout.{state_of, state_words};
+ghost use Rattle.device.specs.Layout.{state_of};
 ghost use Rattle.device.specs.Step.{register_step};
 ghost use Rattle.device.specs.declared.event.Event.TheVariants.{Master, Memory, Peripheral, Register, Reset};
 
@@ -13,8 +13,7 @@ use crate::registers::{access_guard, access_iac, access_rifsc};
 use crate::reset::reset;
 use access::{Answer, Why};
 
-fn access_register(state: &mut [u32], a: RegisterAccess) -> Answer
-    requires { length state.old ≡ state_words }
+fn access_register(state: &mut [u32; STATE_WORDS], a: RegisterAccess) -> Answer
     ensures answer { result ≡ (register_step a.block a.request (state_of state.old)).answer }
     ensures next { state_of state.new ≡ (register_step a.block a.request (state_of state.old)).next }
 {
@@ -33,9 +32,9 @@ pub fn apply_reset(state: &mut [u32]) -> Answer
     ensures answer { result ≡ applied_answer Reset state.old }
     ensures next { state.new ≡ applied_state Reset state.old }
 {
-    if state.len() != STATE_WORDS {
+    let Some(state) = state.as_mut_array::<STATE_WORDS>() else {
         return Answer::Rejected(Why::WrongLength);
-    }
+    };
     reset(state);
     Answer::Done(0)
 }
@@ -44,9 +43,9 @@ pub fn apply_register(state: &mut [u32], a: RegisterAccess) -> Answer
     ensures answer { result ≡ applied_answer (Register a) state.old }
     ensures next { state.new ≡ applied_state (Register a) state.old }
 {
-    if state.len() != STATE_WORDS {
+    let Some(state) = state.as_mut_array::<STATE_WORDS>() else {
         return Answer::Rejected(Why::WrongLength);
-    }
+    };
     access_register(state, a)
 }
 
@@ -54,9 +53,9 @@ pub fn apply_peripheral(state: &mut [u32], a: PeripheralAccess) -> Answer
     ensures answer { result ≡ applied_answer (Peripheral a) state.old }
     ensures next { state.new ≡ applied_state (Peripheral a) state.old }
 {
-    if state.len() != STATE_WORDS {
+    let Some(state) = state.as_mut_array::<STATE_WORDS>() else {
         return Answer::Rejected(Why::WrongLength);
-    }
+    };
     access_peripheral(state, a)
 }
 
@@ -64,9 +63,9 @@ pub fn apply_memory(state: &mut [u32], a: MemoryAccess) -> Answer
     ensures answer { result ≡ applied_answer (Memory a) state.old }
     ensures next { state.new ≡ applied_state (Memory a) state.old }
 {
-    if state.len() != STATE_WORDS {
+    let Some(state) = state.as_mut_array::<STATE_WORDS>() else {
         return Answer::Rejected(Why::WrongLength);
-    }
+    };
     access_memory(state, true, a.guard, a.offset, a.width, a.kind)
 }
 
@@ -75,9 +74,9 @@ pub fn apply_master(state: &mut [u32], a: MasterAccess) -> Answer
     ensures answer { result ≡ applied_answer (Master a) state.old }
     ensures next { state.new ≡ applied_state (Master a) state.old }
 {
-    if state.len() != STATE_WORDS {
+    let Some(state) = state.as_mut_array::<STATE_WORDS>() else {
         return Answer::Rejected(Why::WrongLength);
-    }
+    };
     let master = a.master;
     let kind = load_attributes(state, master).carried(a.write);
     access_memory(state, master.exists(), a.guard, a.offset, a.width, kind)
@@ -103,8 +102,8 @@ pub fn apply(state: &mut [u32], event: Event) -> Answer
 pub fn interrupt_line(state: &[u32]) -> Answer
     ensures { result ≡ line_answer state.now }
 {
-    if state.len() != STATE_WORDS {
+    let Some(state) = state.as_array::<STATE_WORDS>() else {
         return Answer::Rejected(Why::WrongLength);
-    }
+    };
     Answer::Done(words::bit_of(state[LINE], 0) as u32)
 }

@@ -1,12 +1,12 @@
 // The controller in the state's memory: what an access needs of it by value, and the word that it leaves.
-ghost use Rattle.std.specs.Prelude.{◌≡◌, length};
+ghost use Rattle.std.specs.Prelude.{◌≡◌};
 ghost use Rattle.rifsc.specs.Contents.{is_locked, seen, stored, with_stored};
 ghost use Rattle.rifsc.specs.Masters.{attributes_of};
 ghost use Rattle.rifsc.specs.Peripherals.{filter_of};
-ghost use Rattle.device.specs.Layout.{state_of, state_words};
+ghost use Rattle.device.specs.Layout.{state_of};
 ghost use Rattle.device.specs.State.{with_rifsc};
 
-use crate::layout::{ATTR, CR, PRIVCFGR, RCFGLOCKR, RIMC_CR, SECCFGR};
+use crate::layout::{ATTR, CR, PRIVCFGR, RCFGLOCKR, RIMC_CR, SECCFGR, STATE_WORDS};
 use crate::part_words::{store_in, word_in};
 use rifsc::{
     Attributes, Filter, Lock, MASTERS, MasterNumber, PeripheralNumber, Register, Row, Seen,
@@ -14,8 +14,7 @@ use rifsc::{
 use words::BIT_WORDS;
 
 // The word stored for a register.
-pub(crate) fn stored(state: &[u32], reg: Register) -> u32
-    requires { length state.now ≡ state_words }
+pub(crate) fn stored(state: &[u32; STATE_WORDS], reg: Register) -> u32
     ensures { result ≡ stored (state_of state.now).rifsc reg }
 {
     match reg {
@@ -30,8 +29,7 @@ pub(crate) fn stored(state: &[u32], reg: Register) -> u32
     }
 }
 
-fn is_locked(state: &[u32], lock: Lock) -> bool
-    requires { length state.now ≡ state_words }
+fn is_locked(state: &[u32; STATE_WORDS], lock: Lock) -> bool
     ensures { result ≡ is_locked (state_of state.now).rifsc lock }
 {
     match lock {
@@ -42,8 +40,7 @@ fn is_locked(state: &[u32], lock: Lock) -> bool
 }
 
 // What an access to a register with this row needs.
-pub(crate) fn load_seen(state: &[u32], reg: Register, row: Row) -> Seen
-    requires { length state.now ≡ state_words }
+pub(crate) fn load_seen(state: &[u32; STATE_WORDS], reg: Register, row: Row) -> Seen
     ensures { result ≡ seen (state_of state.now).rifsc reg row.lock row.index }
 {
     let lock = row.lock;
@@ -56,8 +53,7 @@ pub(crate) fn load_seen(state: &[u32], reg: Register, row: Row) -> Seen
 }
 
 // Stores a register's word.
-pub(crate) fn store_register(state: &mut [u32], reg: Register, v: u32)
-    requires { length state.old ≡ state_words }
+pub(crate) fn store_register(state: &mut [u32; STATE_WORDS], reg: Register, v: u32)
     ensures { state_of state.new ≡ with_rifsc (state_of state.old) (with_stored (state_of state.old).rifsc reg v) }
 {
     match reg {
@@ -73,8 +69,7 @@ pub(crate) fn store_register(state: &mut [u32], reg: Register, v: u32)
 }
 
 // What the filter holds of a peripheral.
-pub(crate) fn load_filter(state: &[u32], p: PeripheralNumber) -> Filter
-    requires { length state.now ≡ state_words }
+pub(crate) fn load_filter(state: &[u32; STATE_WORDS], p: PeripheralNumber) -> Filter
     ensures { result ≡ filter_of (state_of state.now).rifsc p }
 {
     let x = (p.0 / 32) as usize;
@@ -85,8 +80,7 @@ pub(crate) fn load_filter(state: &[u32], p: PeripheralNumber) -> Filter
 }
 
 // What is held of a master. Master 0 has no guarding peripheral.
-pub(crate) fn load_attributes(state: &[u32], m: MasterNumber) -> Attributes
-    requires { length state.now ≡ state_words }
+pub(crate) fn load_attributes(state: &[u32; STATE_WORDS], m: MasterNumber) -> Attributes
     ensures { result ≡ attributes_of (state_of state.now).rifsc m }
 {
     let p = m.guarding();

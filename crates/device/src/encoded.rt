@@ -42,13 +42,13 @@ pub fn master_encoded(state: &mut [u32], a: MasterAccess) -> u64
     ensures answer { result ≡ encoded_of (applied_answer (Master a) state.old) }
     ensures next { state.new ≡ applied_state (Master a) state.old }
 {
-    if state.len() != STATE_WORDS {
+    let Some(words) = state.as_array::<STATE_WORDS>() else {
         return Answer::Rejected(Why::WrongLength).encoded();
-    }
+    };
     let master = a.master;
     if !master.exists() {
         return Answer::Rejected(Why::NoSuch).encoded();
     }
-    let kind = load_attributes(state, master).carried(a.write);
+    let kind = load_attributes(words, master).carried(a.write);
     memory_encoded(state, a.guard, a.offset, a.width, kind)
 }

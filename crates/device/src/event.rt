@@ -17,7 +17,7 @@ pub struct RegisterAccess {
 }
 
 // What is done at a peripheral.
-#[derive(Clone, Copy)]
+#[derive(Clone, Copy, PartialEq, Eq)]
 pub enum Operation {
     Read,
     Write,

@@ -1,22 +1,21 @@
 // The registers of the IAC in the state's memory, and the line and the count that are kept there.
-ghost use Rattle.std.specs.Prelude.{◌≡◌, ◌≤◌, get_or, length};
+ghost use Rattle.std.specs.Prelude.{◌≡◌, ◌≤◌, get_or};
 ghost use Rattle.iac.specs.Contents.{held_of, stored, with_held, with_word};
 ghost use Rattle.iac.specs.Held.{added, held, with_count};
 ghost use Rattle.iac.specs.OneWord.{kept};
 ghost use Rattle.iac.specs.Registers.{iisr, row_of};
 ghost use Rattle.iac.specs.declared.registers.Register.TheVariants.{Icr, Ier};
-ghost use Rattle.device.specs.Layout.{state_of, state_words};
+ghost use Rattle.device.specs.Layout.{state_of};
 ghost use Rattle.device.specs.State.{flagged, with_iac};
 
-use crate::layout::{COUNT, IER, ISR, LINE};
+use crate::layout::{COUNT, IER, ISR, LINE, STATE_WORDS};
 use crate::part_words::{store_in, word_in};
 use access::Flag;
 use iac::{Held, Register};
 use words::BIT_WORDS;
 
 // The word stored for a register: for ICR the flags that it clears.
-pub(crate) fn load_word(state: &[u32], reg: Register) -> u32
-    requires { length state.now ≡ state_words }
+pub(crate) fn load_word(state: &[u32; STATE_WORDS], reg: Register) -> u32
     ensures { result ≡ stored (state_of state.now).iac reg }
 {
     match reg {
@@ -31,8 +30,8 @@ pub(crate) fn load_word(state: &[u32], reg: Register) -> u32
 // ---- the line and the count
 
 // Adds the change in the fresh count to the stored one, modulo 256.
-fn recount(state: &mut [u32], before: u32, after: u32)
-    requires { (length state.old ≡ state_words) × (before ≤ 32) × (after ≤ 32) }
+fn recount(state: &mut [u32; STATE_WORDS], before: u32, after: u32)
+    requires { (before ≤ 32) × (after ≤ 32) }
     ensures { state_of state.new ≡ with_iac (state_of state.old) (with_held (state_of state.old).iac (with_count (held_of (state_of state.old).iac) (added (state_of state.old).iac.count before after))) }
 {
     let held = Held {
@@ -45,8 +44,7 @@ fn recount(state: &mut [u32], before: u32, after: u32)
 }
 
 // Keeps both where a word becomes another; other is the other word of its index. Where no named bit changes they are not looked at.
-fn keep(state: &mut [u32], named: u32, other: u32, old: u32, new: u32)
-    requires { length state.old ≡ state_words }
+fn keep(state: &mut [u32; STATE_WORDS], named: u32, other: u32, old: u32, new: u32)
     ensures { state_of state.new ≡ with_iac (state_of state.old) (with_held (state_of state.old).iac (kept named other old new (held_of (state_of state.old).iac))) }
 {
     if words::masked(old, named) != words::masked(new, named) {
@@ -58,8 +56,8 @@ fn keep(state: &mut [u32], named: u32, other: u32, old: u32, new: u32)
 
 // ---- a word rewritten: old is stored, and named are the bits that are
 
-fn rewrite_ier(state: &mut [u32], x: usize, named: u32, old: u32, new: u32)
-    requires { (length state.old ≡ state_words) × (named ≡ iisr x) × (old ≡ get_or (state_of state.old).iac.ier x 0) }
+fn rewrite_ier(state: &mut [u32; STATE_WORDS], x: usize, named: u32, old: u32, new: u32)
+    requires { (named ≡ iisr x) × (old ≡ get_or (state_of state.old).iac.ier x 0) }
     ensures { state_of state.new ≡ with_iac (state_of state.old) (held (state_of state.old).iac (with_word (state_of state.old).iac (Ier x) new)) }
 {
     store_in(state, IER, BIT_WORDS, x, new);
@@ -67,8 +65,8 @@ fn rewrite_ier(state: &mut [u32], x: usize, named: u32, old: u32, new: u32)
     keep(state, named, isr, old, new);
 }
 
-fn rewrite_isr(state: &mut [u32], x: usize, named: u32, old: u32, new: u32)
-    requires { (length state.old ≡ state_words) × (named ≡ iisr x) × (old ≡ get_or (state_of state.old).iac.isr x 0) }
+fn rewrite_isr(state: &mut [u32; STATE_WORDS], x: usize, named: u32, old: u32, new: u32)
+    requires { (named ≡ iisr x) × (old ≡ get_or (state_of state.old).iac.isr x 0) }
     ensures { state_of state.new ≡ with_iac (state_of state.old) (held (state_of state.old).iac (with_word (state_of state.old).iac (Icr x) new)) }
 {
     store_in(state, ISR, BIT_WORDS, x, new);
@@ -76,8 +74,8 @@ fn rewrite_isr(state: &mut [u32], x: usize, named: u32, old: u32, new: u32)
     keep(state, named, ier, old, new);
 }
 
-pub(crate) fn rewrite(state: &mut [u32], reg: Register, named: u32, old: u32, new: u32)
-    requires { (length state.old ≡ state_words) × (named ≡ (row_of reg).named) × (old ≡ stored (state_of state.old).iac reg) }
+pub(crate) fn rewrite(state: &mut [u32; STATE_WORDS], reg: Register, named: u32, old: u32, new: u32)
+    requires { (named ≡ (row_of reg).named) × (old ≡ stored (state_of state.old).iac reg) }
     ensures { state_of state.new ≡ with_iac (state_of state.old) (held (state_of state.old).iac (with_word (state_of state.old).iac reg new)) }
 {
     match reg {
@@ -92,8 +90,7 @@ pub(crate) fn rewrite(state: &mut [u32], reg: Register, named: u32, old: u32, ne
 // ---- a flag raised
 
 // Raises a flag, in the word that has its bit. Where there is no such flag, or it is set already, nothing else is looked at.
-pub(crate) fn raise(state: &mut [u32], flag: Flag)
-    requires { length state.old ≡ state_words }
+pub(crate) fn raise(state: &mut [u32; STATE_WORDS], flag: Flag)
     ensures { state_of state.new ≡ flagged flag (state_of state.old) }
 {
     if iac::is_flag(flag) {

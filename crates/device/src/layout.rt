@@ -32,7 +32,8 @@ pub(crate) const COUNT: usize = LINE + 1;
 // The guards, in rising number.
 pub(crate) const GUARDS: usize = COUNT + 1;
 
-// How many words the state has.
+// How many words the state has. Inside this crate it is an array of so many; the public functions take a slice of any length, as C has it,
+// and look once.
 pub const STATE_WORDS: usize = GUARDS + GUARD_COUNT * GUARD_WORDS;
 
 // The words of the regions of the guard at a place among the guards, as a part of the state's memory. An empty part where there is no

@@ -1,24 +1,23 @@
-ghost use Rattle.std.specs.Prelude.{◌≡◌, length};
-ghost use Rattle.device.specs.Layout.{state_of, state_words};
+ghost use Rattle.std.specs.Prelude.{◌≡◌};
+ghost use Rattle.device.specs.Layout.{state_of};
 ghost use Rattle.device.specs.Step.{memory_step};
 
 use crate::flags::raise;
 use crate::guards::{load_faults, store_faults};
-use crate::layout::region_words;
+use crate::layout::{STATE_WORDS, region_words};
 use access::{Answer, Kind};
 use regions::NO_REASON;
 use risaf::{GuardNumber, memory_checked};
 
 // A memory access: granted, it writes nothing. there says whether the master is one there is.
 pub(crate) fn access_memory(
-    state: &mut [u32],
+    state: &mut [u32; STATE_WORDS],
     there: bool,
     guard: GuardNumber,
     o: u32,
     width: u32,
     k: Kind,
 ) -> Answer
-    requires { length state.old ≡ state_words }
     ensures answer { result ≡ (memory_step there guard.0 o width k (state_of state.old)).answer }
     ensures next { state_of state.new ≡ (memory_step there guard.0 o width k (state_of state.old)).next }
 {

@@ -1,25 +1,21 @@
-ghost use Rattle.std.specs.Prelude.{◌≡◌, length};
-ghost use Rattle.device.specs.Layout.{state_of, state_words};
+ghost use Rattle.std.specs.Prelude.{◌≡◌};
+ghost use Rattle.device.specs.Layout.{state_of};
 ghost use Rattle.device.specs.Step.{fetches, peripheral_step};
 
 use crate::controller::load_filter;
 use crate::event::{Operation, PeripheralAccess};
 use crate::flags::raise;
+use crate::layout::STATE_WORDS;
 use access::{Answer, Flag, Why};
 
 fn is_fetch(operation: Operation) -> bool
     ensures { result ≡ fetches operation }
 {
-    match operation {
-        Operation::Read => false,
-        Operation::Write => false,
-        Operation::Fetch => true,
-    }
+    operation == Operation::Fetch
 }
 
 // A peripheral access.
-pub(crate) fn access_peripheral(state: &mut [u32], a: PeripheralAccess) -> Answer
-    requires { length state.old ≡ state_words }
+pub(crate) fn access_peripheral(state: &mut [u32; STATE_WORDS], a: PeripheralAccess) -> Answer
     ensures answer { result ≡ (peripheral_step a (state_of state.old)).answer }
     ensures next { state_of state.new ≡ (peripheral_step a (state_of state.old)).next }
 {

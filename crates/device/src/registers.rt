@@ -1,11 +1,12 @@
-ghost use Rattle.std.specs.Prelude.{false, ◌≡◌, length};
-ghost use Rattle.device.specs.Layout.{state_of, state_words};
+ghost use Rattle.std.specs.Prelude.{false, ◌≡◌};
+ghost use Rattle.device.specs.Layout.{state_of};
 ghost use Rattle.device.specs.Step.{register_step};
 ghost use Rattle.device.specs.declared.event.Block.TheVariants.{Iac, Rifsc, Risaf};
 
 use crate::controller::{load_seen, store_register, stored};
 use crate::flags::{load_word, raise, rewrite};
 use crate::guards::{load_faults, load_port, read_register, store_word};
+use crate::layout::STATE_WORDS;
 use access::{Answer, Flag, Request, Why};
 use iac::Seen;
 use risaf::{CAEF, GuardNumber, IASR};
@@ -16,8 +17,8 @@ const RIFSC_FLAG: Flag = Flag(158);
 const IAC_FLAG: Flag = Flag(138);
 
 // A read of the controller's registers, which leaves the state.
-fn read_rifsc(state: &[u32], q: Request) -> Answer
-    requires { (length state.now ≡ state_words) × (q.write ≡ false) }
+fn read_rifsc(state: &[u32; STATE_WORDS], q: Request) -> Answer
+    requires { q.write ≡ false }
     ensures answer { result ≡ (register_step Rifsc q (state_of state.now)).answer }
     ensures next { state_of state.now ≡ (register_step Rifsc q (state_of state.now)).next }
 {
@@ -26,8 +27,7 @@ fn read_rifsc(state: &[u32], q: Request) -> Answer
 }
 
 // A register access to the controller: what it needs is taken by value, and one word is stored.
-pub(crate) fn access_rifsc(state: &mut [u32], q: Request) -> Answer
-    requires { length state.old ≡ state_words }
+pub(crate) fn access_rifsc(state: &mut [u32; STATE_WORDS], q: Request) -> Answer
     ensures answer { result ≡ (register_step Rifsc q (state_of state.old)).answer }
     ensures next { state_of state.new ≡ (register_step Rifsc q (state_of state.old)).next }
 {
@@ -51,8 +51,8 @@ pub(crate) fn access_rifsc(state: &mut [u32], q: Request) -> Answer
 }
 
 // A read of the registers of the IAC: refused, it raises a flag.
-fn read_iac(state: &mut [u32], q: Request) -> Answer
-    requires { (length state.old ≡ state_words) × (q.write ≡ false) }
+fn read_iac(state: &mut [u32; STATE_WORDS], q: Request) -> Answer
+    requires { q.write ≡ false }
     ensures answer { result ≡ (register_step Iac q (state_of state.old)).answer }
     ensures next { state_of state.new ≡ (register_step Iac q (state_of state.old)).next }
 {
@@ -65,8 +65,7 @@ fn read_iac(state: &mut [u32], q: Request) -> Answer
 }
 
 // A register access to the IAC.
-pub(crate) fn access_iac(state: &mut [u32], q: Request) -> Answer
-    requires { length state.old ≡ state_words }
+pub(crate) fn access_iac(state: &mut [u32; STATE_WORDS], q: Request) -> Answer
     ensures answer { result ≡ (register_step Iac q (state_of state.old)).answer }
     ensures next { state_of state.new ≡ (register_step Iac q (state_of state.old)).next }
 {
@@ -93,8 +92,8 @@ pub(crate) fn access_iac(state: &mut [u32], q: Request) -> Answer
 }
 
 // A read of a guard's registers: refused, it sets CAEF and raises the guard's flag.
-fn read_guard(state: &mut [u32], guard: GuardNumber, q: Request) -> Answer
-    requires { (length state.old ≡ state_words) × (q.write ≡ false) }
+fn read_guard(state: &mut [u32; STATE_WORDS], guard: GuardNumber, q: Request) -> Answer
+    requires { q.write ≡ false }
     ensures answer { result ≡ (register_step (Risaf guard) q (state_of state.old)).answer }
     ensures next { state_of state.new ≡ (register_step (Risaf guard) q (state_of state.old)).next }
 {
@@ -115,8 +114,7 @@ fn read_guard(state: &mut [u32], guard: GuardNumber, q: Request) -> Answer
 
 // A register access to a guard: what it needs of the guard is taken by value, and one word of it is stored. Where there is no register
 // nothing is needed.
-pub(crate) fn access_guard(state: &mut [u32], guard: GuardNumber, q: Request) -> Answer
-    requires { length state.old ≡ state_words }
+pub(crate) fn access_guard(state: &mut [u32; STATE_WORDS], guard: GuardNumber, q: Request) -> Answer
     ensures answer { result ≡ (register_step (Risaf guard) q (state_of state.old)).answer }
     ensures next { state_of state.new ≡ (register_step (Risaf guard) q (state_of state.old)).next }
 {

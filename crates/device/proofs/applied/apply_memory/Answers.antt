@@ -1,17 +1,18 @@
+use borrow.Author.Rules.{rules}
 use Rattle.device.specs.Step.{step}
 use Rattle.device.specs.declared.event.Event.TheVariants.{Memory}
 use Rattle.device.proofs.Applies.{other_length, own-length}
 use Rattle.device.proofs.applied.apply_memory.Goals as goal
 
-pub returns-then-state-ne-STATE_WORDS : goal.returns-then-state-ne-STATE_WORDS
-returns-then-state-ne-STATE_WORDS c =
-    let all = let a = c.args in other_length (Memory a.a) a.state.now c.if-state-ne-STATE_WORDS.true in
+pub returns-in_default : goal.returns-in_default
+returns-in_default c =
+    let all = other_length (Memory c.args.a) c.args.state.now c.in_default.ensures.cases in
     record { answer = all.0; next = all.1 }
 
 pub returns : goal.returns
 unfolding step
 returns c =
-    let a = c.args in
     let u = c.access_memory in
-    let all = own-length (Memory a.a) a.state.now c.if-state-ne-STATE_WORDS.false u.auto.state u.ensures.answer u.ensures.next in
+    let p = c.in-Some.ensures.cases in
+    let all = own-length (Memory c.args.a) c.args.state.now p.long p.same (search rules) u.ensures.answer u.ensures.next in
     record { answer = all.0; next = all.1 }

@@ -6,12 +6,12 @@ use Rattle.device.specs.Layout.{line_part, state_of}
 use Rattle.device.proofs.StateLayout.{head-word}
 use Rattle.device.proofs.applied.interrupt_line.Goals as goal
 
-pub returns-then-state-ne-STATE_WORDS : goal.returns-then-state-ne-STATE_WORDS
+pub returns-in_default : goal.returns-in_default
 unfolding line_answer
-returns-then-state-ne-STATE_WORDS c = simp (ne_eqb _ _ c.if-state-ne-STATE_WORDS.true)
+returns-in_default c = simp (ne_eqb _ _ c.in_default.ensures.cases)
 
 pub returns : goal.returns
 unfolding line_answer state_of
 returns c =
-    let m = c.args.state.now in
-    simp (eq-eqb _ _ c.if-state-ne-STATE_WORDS.false, c.bit_of.ensures, head-word m line_part (lit< tt) refl)
+    let p = c.in-Some.ensures.cases in
+    simp (eq-eqb _ _ p.long, c.bit_of.ensures, p.same, head-word c.args.state.now line_part (lit< tt) refl)

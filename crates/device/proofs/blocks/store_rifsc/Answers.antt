@@ -1,30 +1,18 @@
 use borrow.Author.Rules.{rules}
 use mathlib.Core.Path.{refl}
 use lib.Dec.{lit<}
-use lib.ListN.{length-set}
 use Rattle.device.specs.Layout.{cr_part, seccfgr_part, privcfgr_part, rcfglockr_part, rimccr_part, attr_part}
-use Rattle.device.proofs.StateLayout.{heads-none, heads-more, heads-word, rifsc-stored}
+use Rattle.device.proofs.StateLayout.{heads-none, heads-copied, heads-word, rifsc-stored}
 use Rattle.device.proofs.blocks.store_rifsc.Goals as goal
-
-pub bounds-state-19 : goal.bounds-state-19
-bounds-state-19 c = simp length-set (search rules)
-
-pub shape_of-state : goal.shape_of-state
-shape_of-state c = simp length-set (search rules)
 
 pub returns : goal.returns
 returns c =
     let r = c.args.r in
-    let d = c.store_attr.ensures in
-    let x = c.store_six-3.ensures in
-    let y = c.store_six-2.ensures in
-    let z = c.store_six.ensures in
     rifsc-stored r
+    (heads-copied attr_part r.attr (lit< tt) (search rules) c.copy_from_slice-4.ensures.after
     (heads-word rimccr_part r.rimccr (lit< tt) refl
-    (heads-word cr_part r.cr (lit< tt) refl
-    (heads-more attr_part r.attr (lit< tt) d.0
-    (heads-more rcfglockr_part r.rcfglockr (lit< tt) x.0
-    (heads-more privcfgr_part r.privcfgr (lit< tt) y.0
-    (heads-more seccfgr_part r.seccfgr (lit< tt) z.0 (heads-none c.args.state.now c.requires) z.1) y.1) x.1) d.1)
-    refl)
-    refl)
+    (heads-copied rcfglockr_part r.rcfglockr (lit< tt) (search rules) c.copy_from_slice-3.ensures.after
+    (heads-copied privcfgr_part r.privcfgr (lit< tt) (search rules) c.copy_from_slice-2.ensures.after
+    (heads-copied seccfgr_part r.seccfgr (lit< tt) (search rules) c.copy_from_slice.ensures.after
+    (heads-word cr_part r.cr (lit< tt) refl (heads-none c.args.state.now c.told-state) refl))))
+    refl))

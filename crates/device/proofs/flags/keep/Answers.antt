@@ -6,7 +6,7 @@ use Rattle.device.proofs.flags.keep.Goals as goal
 pub recount-requires : goal.recount-requires
 recount-requires c =
     let a = c.args in
-    (c.requires, rw c.fresh-before.ensures (fresh-most a.named a.old a.other), rw c.fresh-after.ensures (fresh-most a.named a.new a.other))
+    (rw c.fresh-before.ensures (fresh-most a.named a.old a.other), rw c.fresh-after.ensures (fresh-most a.named a.new a.other))
 
 pub returns-then-masked : goal.returns-then-masked
 unfolding kept

@@ -1,4 +1,3 @@
-use borrow.Author.Rules.{rules}
 use mathlib.Core.Path.{◌≡◌, ◌∙◌, sym}
 use Prim.Native.Nat.{◌/◌, ◌%◌}
 use native.Mathlib.Omega.{arith}
@@ -13,13 +12,13 @@ use Rattle.device.proofs.StateLayout.{head-part}
 use Rattle.device.proofs.flags.raise.Goals as goal
 
 pub recount-requires : goal.recount-requires
-recount-requires c = (search rules, omega arith, omega (arith, one-most c.bit_of-enabled.result))
+recount-requires c = (omega arith, omega (arith, one-most c.bit_of-enabled.result))
 
 pub returns-then-not-bit_of : goal.returns-then-not-bit_of
 unfolding state_of
 returns-then-not-bit_of c =
     let a = c.args in
-    let h = c.requires in
+    let h = c.told-state in
     let m = a.state.now in
     let s = state_of m in
     let x = a.flag.0 / 32 in

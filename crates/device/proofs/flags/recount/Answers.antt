@@ -1,19 +1,12 @@
 use borrow.Author.Rules.{rules}
 use mathlib.Core.Path.{refl, ap, ◌∙◌}
 use lib.Dec.{lit<}
-use lib.ListN.{length-set}
 use Rattle.iac.specs.Contents.{with_held}
 use Rattle.iac.specs.declared.held.Held.{Held}
 use Rattle.device.specs.Layout.{line_part, count_part, state_of}
 use Rattle.device.specs.State.{with_iac}
 use Rattle.device.proofs.StateLayout.{head-word, heads-none, heads-word, held-stored}
 use Rattle.device.proofs.flags.recount.Goals as goal
-
-pub bounds-state-46-2 : goal.bounds-state-46-2
-bounds-state-46-2 c = simp length-set (search rules)
-
-pub shape_of-state : goal.shape_of-state
-shape_of-state c = simp length-set (search rules)
 
 pub returns : goal.returns
 unfolding state_of

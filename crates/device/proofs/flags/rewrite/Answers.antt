@@ -1,4 +1,3 @@
-use borrow.Author.Rules.{rules}
 use mathlib.Core.Path.{sym, ap}
 use Rattle.iac.specs.Contents.{stored, with_word}
 use Rattle.iac.specs.Registers.{row_of}
@@ -12,14 +11,14 @@ unfolding row_of stored
 rewrite_ier-requires c =
     let p = c.requires in
     let e = c.in-Ier.is in
-    (search rules, rw e at p.1, rw e at p.2)
+    (rw e at p.0, rw e at p.1)
 
 pub rewrite_isr-requires : goal.rewrite_isr-requires
 unfolding row_of stored
 rewrite_isr-requires c =
     let p = c.requires in
     let e = c.in-Icr.is in
-    (search rules, rw e at p.1, rw e at p.2)
+    (rw e at p.0, rw e at p.1)
 
 pub returns-in-Ier : goal.returns-in-Ier
 returns-in-Ier c = rw c.in-Ier.is c.rewrite_ier.ensures

@@ -9,6 +9,6 @@ pub returns : goal.returns
 unfolding state_of
 returns c =
     let a = c.args in
-    isr-kept (state_of a.state.now) a.x a.new (state-sized a.state.now c.requires.0) c.requires.1 c.keep.ensures c.requires.2
-    (isr-stored a.x a.new (heads-set isr_part a.x a.new c.requires.0 (lit< tt) c.store_in.ensures))
+    isr-kept (state_of a.state.now) a.x a.new (state-sized a.state.now c.told-state) c.requires.0 c.keep.ensures c.requires.1
+    (isr-stored a.x a.new (heads-set isr_part a.x a.new c.told-state (lit< tt) c.store_in.ensures))
     (simp (c.word_in-ier.ensures, head-part c.store_in.new.state ier_part (lit< tt)))

@@ -9,7 +9,7 @@ returns c =
     let p = c.args.place in
     simp (
       c.guard_start-start.ensures.0,
-      ← word_read m p iasr_at c.requires.0 c.requires.1 (lit< tt),
-      ← word_read m p iaesr_at c.requires.0 c.requires.1 (lit< tt),
-      ← word_read m p iaddr_at c.requires.0 c.requires.1 (lit< tt),
+      ← word_read m p iasr_at c.told-state c.requires (lit< tt),
+      ← word_read m p iaesr_at c.told-state c.requires (lit< tt),
+      ← word_read m p iaddr_at c.told-state c.requires (lit< tt),
     )

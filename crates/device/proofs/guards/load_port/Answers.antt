@@ -11,4 +11,4 @@ returns c =
     let a = c.args in
     c.at.ensures
     ∙ rw (c.guard_start-start.ensures.0, add-sub_cancel_left)
-    (ap (λ (w : List ℕ). port_in w a.row) (sym (guard-words a.state.now a.place c.requires.0 c.requires.1)))
+    (ap (λ (w : List ℕ). port_in w a.row) (sym (guard-words a.state.now a.place c.told-state c.requires)))

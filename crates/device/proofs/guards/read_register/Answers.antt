@@ -12,4 +12,4 @@ returns c =
     let a = c.args in
     c.read.ensures
     ∙ rw (c.guard_start-start.ensures.0, add-sub_cancel_left)
-    (ap (λ (w : List ℕ). read_answer a.shape w a.q) (sym (guard-words a.state.now a.shape.place c.requires.0 c.requires.1)))
+    (ap (λ (w : List ℕ). read_answer a.shape w a.q) (sym (guard-words a.state.now a.shape.place c.told-state c.requires)))

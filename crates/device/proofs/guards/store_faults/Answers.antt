@@ -11,4 +11,4 @@ returns c =
     let p = c.args.place in
     let t = state_of c.args.state.now in
     c.store_word-3.ensures
-    ∙ word-again t _ p iaddr_at _ n c.requires.1 (c.store_word-2.ensures ∙ word-again t _ p iaesr_at _ n c.requires.1 c.store_word.ensures)
+    ∙ word-again t _ p iaddr_at _ n c.requires (c.store_word-2.ensures ∙ word-again t _ p iaesr_at _ n c.requires c.store_word.ensures)

@@ -1,5 +1,3 @@
-use borrow.Author.Rules.{rules}
-use borrow.Enum.Refused.{opened}
 use mathlib.Core.Path.{ap, ◌∙◌}
 use Prim.Native.Nat.{◌<◌}
 use lib.ListN.{length}
@@ -17,7 +15,7 @@ returns-in_default c =
     let m = c.memory_checked-checked in
     let a = c.args in
     let all = memory-rejected (state_of a.state.now) a.there a.guard.0 a.o a.width a.k c.shape-shape.ensures m.ensures
-    (opened c.in_default.in_default-own.keys2) in
+    c.in_default.not-Done in
     record { answer = all.0; next = all.1 }
 
 pub returns-then-verdict-eq-NO_REASON : goal.returns-then-verdict-eq-NO_REASON
@@ -25,22 +23,18 @@ returns-then-verdict-eq-NO_REASON c =
     let a = c.args in
     let es = c.shape-shape.ensures in
     let l : c.shape-shape.result.place < guard_count = rw es (place-lt _) in
-    let ew = c.region_words.ensures ∙ regions-read a.state.now _ c.requires l in
+    let ew = c.region_words.ensures ∙ regions-read a.state.now _ c.told-state l in
     let all = memory-granted (state_of a.state.now) a.there a.guard.0 a.o a.width a.k es c.memory_checked-checked.ensures
-    c.in-Done.is ew (ap length ew ∙ regions-length a.state.now _ c.requires l) c.decide-verdict.ensures c.if-verdict-eq-NO_REASON.true in
+    c.in-Done.is ew (ap length ew ∙ regions-length a.state.now _ c.told-state l) c.decide-verdict.ensures c.if-verdict-eq-NO_REASON.true in
     record { answer = all.0; next = all.1 }
 
 pub load_faults-requires : goal.load_faults-requires
 load_faults-requires c =
-    (c.requires, rw c.shape-shape.ensures (place-lt _))
+    rw c.shape-shape.ensures (place-lt _)
 
 pub store_faults-requires : goal.store_faults-requires
 store_faults-requires c =
-    (c.requires, rw c.shape-shape.ensures (place-lt _))
-
-pub raise-requires : goal.raise-requires
-raise-requires c =
-    search (rules, c.requires)
+    rw c.shape-shape.ensures (place-lt _)
 
 pub returns : goal.returns
 unfolding faulted
@@ -48,9 +42,9 @@ returns c =
     let a = c.args in
     let es = c.shape-shape.ensures in
     let l : c.shape-shape.result.place < guard_count = rw es (place-lt _) in
-    let ew = c.region_words.ensures ∙ regions-read a.state.now _ c.requires l in
+    let ew = c.region_words.ensures ∙ regions-read a.state.now _ c.told-state l in
     let all = memory-refused (state_of a.state.now) a.there a.guard.0 a.o a.width a.k es c.memory_checked-checked.ensures
-    c.in-Done.is ew (ap length ew ∙ regions-length a.state.now _ c.requires l) c.decide-verdict.ensures c.if-verdict-eq-NO_REASON.false
+    c.in-Done.is ew (ap length ew ∙ regions-length a.state.now _ c.told-state l) c.decide-verdict.ensures c.if-verdict-eq-NO_REASON.false
     (c.raise.ensures
     ∙ ap (flagged _) (c.store_faults.ensures ∙ rw (c.recorded-faults.ensures, c.hears-heard.ensures, c.load_faults.ensures))) in
     record { answer = all.0; next = all.1 }

@@ -1,10 +1,6 @@
 use mathlib.Core.Path.{refl}
 use borrow.Author.Tests.{lt-ltb, le-ltb}
-use lib.ListN.{length-set}
 use Rattle.device.proofs.part_words.store_in.Goals as goal
-
-pub shape_of-state : goal.shape_of-state
-shape_of-state c = simp length-set
 
 pub returns-then-x-n : goal.returns-then-x-n
 returns-then-x-n c = rw (lt-ltb _ _ c.if-x-n.true) refl

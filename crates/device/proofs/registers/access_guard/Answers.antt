@@ -7,12 +7,11 @@ use Rattle.risaf.proofs.Shapes.{place-lt}
 use Rattle.device.specs.Layout.{state_of}
 use Rattle.device.specs.State.{flagged}
 use Rattle.device.proofs.GuardSteps.{register-no-guard, register-misaligned, register-unknown, register-answer, register-written, register-refused, register-rejected}
-use borrow.Author.Rules.{rules}
 use Rattle.device.proofs.registers.access_guard.Goals as goal
 
 pub read_guard-requires : goal.read_guard-requires
 read_guard-requires c =
-    (c.requires, not-true c.args.q.write c.if-not-q.true)
+    not-true c.args.q.write c.if-not-q.true
 
 pub returns-then-not-q : goal.returns-then-not-q
 returns-then-not-q c =
@@ -41,22 +40,15 @@ returns-then-not-row c =
 
 pub load_port-requires : goal.load_port-requires
 load_port-requires c =
-    (c.requires, rw c.shape-shape.ensures (place-lt _))
+    rw c.shape-shape.ensures (place-lt _)
 
 pub store_word-requires : goal.store_word-requires
 store_word-requires c =
-    (c.requires, rw c.shape-shape.ensures (place-lt _), rw c.row_at-row.ensures (place-fits _ _))
+    (rw c.shape-shape.ensures (place-lt _), rw c.row_at-row.ensures (place-fits _ _))
 
 pub store_word-requires-in-Refused : goal.store_word-requires-in-Refused
 store_word-requires-in-Refused c =
-    (c.requires, rw c.shape-shape.ensures (place-lt _), lit< tt)
-
-pub raise-requires : goal.raise-requires
-raise-requires c =
-    let p = c.requires in
-    let k = c.state-in-Refused-1.given in
-    let l = c.slice_known-in-Refused-1.given in
-    search (rules, p, k, l)
+    (rw c.shape-shape.ensures (place-lt _), lit< tt)
 
 pub returns-in-Done : goal.returns-in-Done
 returns-in-Done c =

@@ -14,7 +14,7 @@ returns-then-q-ne0 c =
 
 pub read_iac-requires : goal.read_iac-requires
 read_iac-requires c =
-    (c.requires, not-true c.args.q.write c.if-not-q.true)
+    not-true c.args.q.write c.if-not-q.true
 
 pub returns-then-not-q : goal.returns-then-not-q
 returns-then-not-q c =
@@ -22,7 +22,7 @@ returns-then-not-q c =
 
 pub rewrite-requires : goal.rewrite-requires
 rewrite-requires c =
-    (c.requires, ap (λ (r : Row). r.named) c.row-row.ensures, c.load_word.ensures)
+    (ap (λ (r : Row). r.named) c.row-row.ensures, c.load_word.ensures)
 
 pub returns-in-Done : goal.returns-in-Done
 returns-in-Done c =

@@ -12,7 +12,7 @@ returns-then-q-ne0 c =
 
 pub read_rifsc-requires : goal.read_rifsc-requires
 read_rifsc-requires c =
-    (c.requires, not-true c.args.q.write c.if-not-q.true)
+    not-true c.args.q.write c.if-not-q.true
 
 pub returns-then-not-q : goal.returns-then-not-q
 returns-then-not-q c =

@@ -1,18 +1,12 @@
-use mathlib.Core.Path.{◌≡◌, ap, ◌∙◌}
-use native.Mathlib.Omega.{arith}
-use lib.ListN.{length, replicate}
-use lib.Seq.{paste}
-use Rattle.risaf.specs.Contents.{head_words, regions_words, guard_size, reset}
+use mathlib.Core.List.{List, ◌∷◌, append-nil}
+use mathlib.Core.Path.{ap, ◌∙◌}
+use Prim.Native.Nat.{ℕ}
+use Rattle.risaf.specs.Contents.{reset}
 use Rattle.risaf.specs.declared.contents.Guard.{Guard}
 use Rattle.device.proofs.reset.guard_words.Goals as goal
-
-pub copy_words-requires : goal.copy_words-requires
-unfolding reset
-copy_words-requires c =
-    let e : length c.reset-guard.result.regions ≡ regions_words = ap (λ (g : Guard). length g.regions) c.reset-guard.ensures in
-    omega arith
 
 pub returns : goal.returns
 unfolding reset
 returns c =
-    c.copy_words.ensures ∙ ap (λ (g : Guard). paste (replicate guard_size 0) head_words g.regions (length g.regions)) c.reset-guard.ensures
+    ap (λ (w : List ℕ). 0 ∷ 0 ∷ 0 ∷ 0 ∷ w)
+    (append-nil _ ∙ c.copy_from_slice.ensures.after ∙ ap (λ (g : Guard). g.regions) c.reset-guard.ensures)

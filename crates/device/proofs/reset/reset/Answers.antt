@@ -12,7 +12,7 @@ loop-n-preserved c =
     let l = c.loop-n in
     let u = c.reset_guard in
     let m = c.store_iac.new.state in
-    (search rules, u.auto.state ∙ l.invariant.1, u.ensures ∙ reset-more (state_of m) l.n l.invariant.2)
+    (search rules, u.ensures ∙ reset-more (state_of m) l.n l.invariant.1)
 
 pub returns : goal.returns
 returns c =
@@ -20,8 +20,8 @@ returns c =
     let e : l.n ≡ numbers = omega arith in
     let m = c.store_iac.new.state in
     let s = state_of c.args.state.now in
-    l.invariant.2 ∙ ap (λ (n : ℕ). with_guards (state_of m) (reset_below n (state_of m).guards)) e
+    l.invariant.1 ∙ ap (λ (n : ℕ). with_guards (state_of m) (reset_below n (state_of m).guards)) e
     ∙ state-reset m s c.reset.ensures c.store_rifsc.ensures c.reset-2.ensures c.store_iac.ensures
 
 pub loop-n-init : goal.loop-n-init
-loop-n-init c = (search rules, search rules, refl)
+loop-n-init c = (search rules, refl)

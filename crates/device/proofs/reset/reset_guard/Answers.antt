@@ -1,5 +1,3 @@
-use mathlib.Core.Path.{ap}
-use lib.ListN.{length}
 use Rattle.risaf.specs.Contents.{reset}
 use Rattle.risaf.proofs.Shapes.{place-lt}
 use Rattle.device.specs.Layout.{state_of}
@@ -9,7 +7,7 @@ use Rattle.device.proofs.reset.reset_guard.Goals as goal
 pub store_guard-requires : goal.store_guard-requires
 unfolding reset
 store_guard-requires c =
-    (c.requires, rw c.shape-shape.ensures (place-lt _), ap length c.guard_words-words.ensures)
+    rw c.shape-shape.ensures (place-lt _)
 
 pub returns-then-shape : goal.returns-then-shape
 returns-then-shape c =
