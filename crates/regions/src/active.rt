@@ -26,9 +26,8 @@ fn with_region(w: &[u32], x: usize, o: u32, a: Active) -> Active
     }
     if o < w[b + START] {
         return Active {
-            low: a.low,
-            high: a.high,
             to: start_ahead(w[b + START], a.to),
+            ..a
         };
     }
     if w[b + END] < o {
@@ -38,7 +37,7 @@ fn with_region(w: &[u32], x: usize, o: u32, a: Active) -> Active
     Active {
         low,
         high: x + 1,
-        to: a.to,
+        ..a
     }
 }
 

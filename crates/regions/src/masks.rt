@@ -109,9 +109,7 @@ pub(crate) fn with_base(cfgr: u32, cidcfgr: u32, m: Masks) -> Masks
         some: m.some | cfgr,
         every: m.every & cfgr,
         enables: m.enables & cidcfgr,
-        secure: m.secure,
-        privileged: m.privileged,
-        opens: m.opens,
+        ..m
     }
 }
 
@@ -120,14 +118,10 @@ pub(crate) fn with_base(cfgr: u32, cidcfgr: u32, m: Masks) -> Masks
 fn with_sub_privileged(base: u32, sub: u32, opens: u32, m: Masks) -> Masks
     ensures { result ≡ with_sub true base sub opens m }
 {
-    let opens = m.opens | opens;
     Masks {
-        some: m.some,
-        every: m.every,
-        enables: m.enables,
         secure: m.secure & (sub & base),
-        privileged: m.privileged,
-        opens,
+        opens: m.opens | opens,
+        ..m
     }
 }
 
@@ -136,9 +130,10 @@ pub(crate) fn with_sub(base: u32, sub: u32, opens: u32, m: Masks) -> Masks
     ensures { result ≡ with_sub false base sub opens m }
 {
     let srcid = srcid(sub);
-    let mut next = with_sub_privileged(base, sub, opens, m);
-    next.privileged = m.privileged & (sub & ((base >> srcid.0) >> (PRIVC - PRIV)));
-    next
+    Masks {
+        privileged: m.privileged & (sub & ((base >> srcid.0) >> (PRIVC - PRIV))),
+        ..with_sub_privileged(base, sub, opens, m)
+    }
 }
 
 // With what subregion s of base region x, which covers, says.

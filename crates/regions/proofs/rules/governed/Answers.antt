@@ -1,6 +1,7 @@
 use mathlib.Core.Bool.{true, false}
-use mathlib.Core.Path.{◌∙◌}
+use mathlib.Core.Path.{ap, ◌∙◌}
 use native.Mathlib.Omega.{arith}
+use Rattle.std.specs.Prelude.{Some}
 use Rattle.regions.proofs.AdmitsTests.{none-covered}
 use Rattle.regions.proofs.Askings.{found_as, governed-none}
 use Rattle.regions.proofs.Enabled.{told_none, unenabled-uncovered}
@@ -28,7 +29,7 @@ by_regions-requires c =
 pub returns-then-k : goal.returns-then-k
 returns-then-k c =
     let a = c.args in
-    c.by_regions.ensures
+    ap Some c.by_regions.ensures
     ∙ found_as a.w.now a.n a.o a.k c.requires.2 true c.if-k.true c.next_covering-first.ensures
     c.if-first-n.false
 
@@ -41,6 +42,6 @@ by_regions-requires-2 c =
 pub returns : goal.returns
 returns c =
     let a = c.args in
-    c.by_regions-2.ensures
+    ap Some c.by_regions-2.ensures
     ∙ found_as a.w.now a.n a.o a.k c.requires.2 false c.if-k.false c.next_covering-first.ensures
     c.if-first-n.false
