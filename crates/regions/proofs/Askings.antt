@@ -172,12 +172,10 @@ module _ (w : List ℕ) (n o : ℕ) (k : Kind) (h : k.cid.0 ≤ 7) where
   governed-as d e f = rw (← e) (rw f (ap Some (asked_is f)))
 
   -- where the search found one
-  pub found_as : (d : Bool) → k.write ≡ d → {r : ℕ} → Next w o 0 n r → (r ≡ n → ⊥)
+  pub found_as : (d : Bool) → k.write ≡ d → {r : ℕ} → Next w o n r
       → Some (verdict_of (by_asked (den_of d) m) (record { cid = k.cid; write = d; privileged = k.privileged; secure = k.secure }))
       ≡ governed w n o k
-  found_as d e {r} next f =
-      let l : r < n = omega (arith, next.high, f) in
-      governed-as d e (some-covered w o n r l (next.found l))
+  found_as d e {r} next = governed-as d e (some-covered w o n r next.high next.found)
 
   pub governed-none : covered w n o ≡ false → None ≡ governed w n o k
   governed-none e = rw e refl

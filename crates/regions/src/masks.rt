@@ -1,4 +1,4 @@
-ghost use Rattle.std.specs.Prelude.{◌≡◌, ◌+◌, ◌*◌, ◌≤◌, ◌<◌, length, false, not, true};
+ghost use Rattle.std.specs.Prelude.{◌≡◌, ◌+◌, ◌*◌, ◌≤◌, ◌<◌, length, false, not, true, MatchOption};
 ghost use Rattle.words.specs.Bit.{field};
 ghost use Rattle.regions.specs.Words.{base, end_at, most_regions, region_words, srcid_bit};
 ghost use Rattle.regions.specs.Rules.{covers};
@@ -186,19 +186,12 @@ pub(crate) fn none_enabled(w: &[u32]) -> bool
     !((some >> ENABLE) % 2 == 1)
 }
 
-// The next base region from `from` on that covers the offset, or n.
-pub(crate) fn next_covering(w: &[u32], from: usize, n: usize, o: u32) -> usize
-    requires { (from ≤ n) × (base n ≤ length w.now) }
-    ensures { Next w.now o from n result }
+// The first of n base regions that covers the offset.
+pub(crate) fn next_covering(w: &[u32], n: usize, o: u32) -> Option<usize>
+    requires { base n ≤ length w.now }
+    ensures { MatchOption result (Passed w.now o 0 n) (Next w.now o n) }
 {
-    let mut x = from;
-    while x < n {
-        if covers(w, REGION_WORDS * x, o) {
-            return x;
-        }
-        x += 1;
-    }
-    x
+    (0..n).find(|&x| covers(w, REGION_WORDS * x, o))
 }
 
 // What the first n base regions say to one asking: none below `from` covers.

@@ -101,15 +101,10 @@ fn governed(w: &[u32], n: usize, o: u32, k: Kind) -> Option<Verdict>
     requires { (n ≤ most_regions) × (base n ≤ length w.now) × (k.cid.0 ≤ debugger.0) }
     ensures { result ≡ governed w.now n o k }
 {
-    if REGION_WORDS * MOST_REGIONS <= w.len() {
-        if none_enabled(w) {
-            return None;
-        }
-    }
-    let first = next_covering(w, 0, n, o);
-    if first == n {
+    if REGION_WORDS * MOST_REGIONS <= w.len() && none_enabled(w) {
         return None;
     }
+    let first = next_covering(w, n, o)?;
     let cid = k.cid;
     if k.write {
         return Some(by_regions(w, first, n, o, k.privileged, WREN, cid, true, k.secure));
