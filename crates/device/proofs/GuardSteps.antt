@@ -7,6 +7,7 @@ use native.Mathlib.Omega.{arith}
 use lib.ListN.{length}
 use lib.Seq.{set-get_or}
 use borrow.Author.Tests.{eq-eqb, ne_eqb}
+use Rattle.std.specs.Prelude.{Some, None}
 use Rattle.words.specs.Bit.{with_bit}
 use Rattle.access.specs.Answer.{left}
 use Rattle.access.specs.Bus.{heard}
@@ -19,7 +20,9 @@ use Rattle.access.specs.declared.kind.Kind.{Kind}
 use Rattle.access.specs.declared.request.Request.{Request}
 use Rattle.regions.specs.Lent.{decided_in}
 use Rattle.regions.specs.Rules.{decided}
-use Rattle.regions.specs.declared.rules.Verdict.{Verdict}
+use Rattle.regions.specs.Verdict.{rule_number, reason_number}
+use Rattle.regions.specs.declared.verdict.Reason.{Reason}
+use Rattle.regions.specs.declared.verdict.Verdict.{Verdict}
 use Rattle.risaf.specs.Contents.{iasr_at, regions_words, guard_words, with_word}
 use Rattle.risaf.specs.Guards.{shape_of}
 use Rattle.risaf.specs.Memory.{memory_answer, memory_checked, faulted, memory_stepped}
@@ -177,10 +180,10 @@ module _ (s : State) (there : Bool) (n o width : ℕ) (k : Kind) {shape : Shape}
         ∙ sym (answer-in (there && shape.there) shape o width k shape.bus w shape.regions (omega arith) (omega arith))
         ∙ ap answer_by (sym ev) ∙ by-verdict v ∙ ap (λ (y : Answer). onward y (ruled v)) done)
 
-    pub memory-granted : v.reason ≡ 0
-        → (Done v.rule ≡ (memory_step there n o width k s).answer) × (s ≡ (memory_step there n o width k s).next)
-    memory-granted e = rw memory-by (rw (eq-eqb v.reason 0 e) (refl, sym (guard-same s shape.place)))
+    pub memory-granted : v.reason ≡ None
+        → (Done (rule_number v.rule) ≡ (memory_step there n o width k s).answer) × (s ≡ (memory_step there n o width k s).next)
+    memory-granted e = rw memory-by (rw e (refl, sym (guard-same s shape.place)))
 
-    pub memory-refused : (v.reason ≡ 0 → ⊥) → {t : State} → t ≡ flagged shape.flag (with_guard_at s shape.place (faulted h o (heard shape.bus k)))
-        → (Refused v.reason ≡ (memory_step there n o width k s).answer) × (t ≡ (memory_step there n o width k s).next)
-    memory-refused d e = rw memory-by (rw (ne_eqb v.reason 0 d) (refl, e))
+    pub memory-refused : {r : Reason} → v.reason ≡ Some r → {t : State} → t ≡ flagged shape.flag (with_guard_at s shape.place (faulted h o (heard shape.bus k)))
+        → (Refused (reason_number r) ≡ (memory_step there n o width k s).answer) × (t ≡ (memory_step there n o width k s).next)
+    memory-refused d e = rw memory-by (rw d (refl, e))

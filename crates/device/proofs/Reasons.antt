@@ -1,12 +1,13 @@
 -- A memory or master access that nothing rejects is granted exactly where no test fails, and else refused for the first that does:
 -- document 02, Q-5.
-use mathlib.Core.Bool.{Bool, true, false, cond, true≢false}
+use mathlib.Core.Bool.{Bool, true, false, true≢false}
 use mathlib.Core.Logic.{◌↔◌}
 use mathlib.Core.Path.{◌≡◌, refl, sym, ap, ◌∙◌, subst}
 use Prim.Native.Nat.{ℕ, zero, suc, ◌≤◌}
 use native.Mathlib.Omega.{arith}
 use borrow.Author.Tests.{ltb-true}
-use lib.Dec.{eqb, lit≤}
+use lib.Dec.{lit≤}
+use Rattle.std.specs.Prelude.{Option, is_none}
 use Rattle.access.specs.Answer.{number_of, value_of}
 use Rattle.access.specs.Bus.{heard}
 use Rattle.access.specs.Checks.{unless}
@@ -16,7 +17,9 @@ use Rattle.access.specs.declared.answer.Why.TheVariants.{NoSuch, Misaligned, Out
 use Rattle.access.specs.declared.kind.Kind.{Kind}
 use Rattle.regions.specs.Rules.{Tests, reason_of, decided}
 use Rattle.regions.proofs.OneTest.{security-by, privilege-by}
-use Rattle.regions.specs.declared.rules.Verdict.{Verdict}
+use Rattle.regions.specs.Verdict.{refused_number}
+use Rattle.regions.specs.declared.verdict.Reason.{Reason}
+use Rattle.regions.specs.declared.verdict.Verdict.{Verdict}
 use Rattle.rifsc.specs.Masters.{is_master}
 use Rattle.risaf.specs.Guards.{shape_of}
 use Rattle.risaf.specs.Memory.{memory_stepped}
@@ -59,11 +62,14 @@ module _ (s : State) (a : MemoryAccess) where
 
 -- the rules' answer, by the tests
 ruled-by : (P : Answer → Type 0) (rule : ℕ) (t : Tests) → (NoneFails t → P (Done rule)) → ((r : ℕ) → FirstFails r t → P (Refused r))
-    → P (unless (eqb (reason_of t) 0) (Refused (reason_of t)) (Done rule))
+    → P (unless (is_none (reason_of t)) (Refused (refused_number (reason_of t))) (Done rule))
 ruled-by P rule t none first = go t.security refl t.privilege refl t.compartment refl
   where
+    first_of : Bool → Bool → Bool → Option Reason
+    first_of x y z = reason_of (record { security = x; privilege = y; compartment = z })
+
     go : (x : Bool) → t.security ≡ x → (y : Bool) → t.privilege ≡ y → (z : Bool) → t.compartment ≡ z
-        → P (unless (eqb (cond x (cond y (cond z 0 3) 2) 1) 0) (Refused (cond x (cond y (cond z 0 3) 2) 1)) (Done rule))
+        → P (unless (is_none (first_of x y z)) (Refused (refused_number (first_of x y z))) (Done rule))
     go true e true f true g = none (e, f, g)
     go true e true f false g = first 3 (e, f, g)
     go true e false f z g = first 2 (e, f)

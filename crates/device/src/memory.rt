@@ -6,7 +6,6 @@ use crate::flags::raise;
 use crate::guards::{load_faults, store_faults};
 use crate::layout::{STATE_WORDS, region_words};
 use access::{Answer, Kind};
-use regions::NO_REASON;
 use risaf::{GuardNumber, memory_checked};
 
 // A memory access: granted, it writes nothing. there says whether the master is one there is.
@@ -28,12 +27,12 @@ pub(crate) fn access_memory(
     };
     let bus = shape.bus;
     let verdict = regions::decide(bus, region_words(state, shape.place), shape.regions, o, k);
-    if verdict.reason == NO_REASON {
-        return Answer::Done(verdict.rule);
-    }
+    let Some(reason) = verdict.reason else {
+        return Answer::Done(verdict.rule.number());
+    };
     let heard = bus.hears(k);
     let faults = load_faults(state, shape.place).recorded(o, heard);
     store_faults(state, shape.place, faults);
     raise(state, shape.flag);
-    Answer::Refused(verdict.reason)
+    Answer::Refused(reason.number())
 }

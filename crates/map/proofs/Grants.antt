@@ -16,6 +16,7 @@ use Rattle.risaf.specs.Guards.{is_guard, shape_of}
 use Rattle.risaf.specs.Memory.{is_width, memory_stepped, memory_answer, memory_checks}
 use Rattle.regions.specs.Rights.{rights_word}
 use Rattle.regions.specs.Rules.{decided, granted}
+use Rattle.regions.specs.Verdict.{rule_number, refused_number}
 use Rattle.regions.proofs.RightsBits.{rights-bit}
 use Rattle.device.specs.State.{State, guard_of}
 use Rattle.device.specs.Step.{memory_step, step}
@@ -33,7 +34,7 @@ module _ (s : State) (n x : ℕ) (hn : is_guard n ≡ true) (hx : x < (shape_of 
     unfolding grants_at step memory_step memory_stepped memory_answer memory_checks answered_with reached_with
     grants-decided k hk =
         let v = decided (shape_of n).bus (guard_of s n).regions (shape_of n).regions x k in
-        simp (hn, le-leb k.cid.0 7 hk, hw, eq-eqb (x % width) 0 ha, lt-ltb x (shape_of n).window hx) (done (granted v) v.rule v.reason)
+        simp (hn, le-leb k.cid.0 7 hk, hw, eq-eqb (x % width) 0 ha, lt-ltb x (shape_of n).window hx) (done (granted v) (rule_number v.rule) (refused_number v.reason))
 
     -- each bit is the answer to its kind of asking
     pub bit-grants : (k : Kind) → k.cid.0 ≤ 7 → bit (rights_of s n x) (rights_bit k) ≡ grants_at s n x width k

@@ -25,7 +25,9 @@ use Rattle.regions.specs.Masks.{masks, openings, Passed}
 use Rattle.regions.specs.Admits.{defaults, by_default, by_bases, by_subs, by_regions, by_masks, admitted, all_if, all_as_zero, with_debugger, as_heard, admits_security, tests_of, verdict_of}
 use Rattle.regions.specs.declared.admits.Admits.{Admits}
 use Rattle.regions.specs.declared.masks.Masks.{Masks}
-use Rattle.regions.specs.declared.rules.Verdict.{Verdict}
+use Rattle.regions.specs.declared.verdict.Rule.{Rule}
+use Rattle.regions.specs.declared.verdict.Rule.TheVariants.{Default, Base, Subregion}
+use Rattle.regions.specs.declared.verdict.Verdict.{Verdict}
 use Rattle.regions.proofs.MaskBits.{some-bit, every-bit, enables-bit, secure-bit, privileged-bit}
 use Rattle.regions.proofs.Openings.{counted_is, open-bit, reads-right, writes-right}
 
@@ -218,21 +220,21 @@ unfolding verdict_of admitted by_regions by_default by_bases by_subs tests
 tests-is bus w n o k h = by (covered w n o) refl (counted w n o) refl
   where
     -- of either rule
-    verdict : (a : Admits) (r : ℕ) (t : Tests) → a.rule ≡ r → tests_of a k ≡ t
+    verdict : (a : Admits) (r : Rule) (t : Tests) → a.rule ≡ r → tests_of a k ≡ t
         → ◌≡◌ {A = Verdict} (record { rule = a.rule; reason = reason_of (tests_of a k) }) (record { rule = r; reason = reason_of t })
-    verdict a r t e f = ap₂ (λ (r : ℕ) (t : Tests). record { rule = r; reason = reason_of t }) e f
+    verdict a r t e f = ap₂ (λ (r : Rule) (t : Tests). record { rule = r; reason = reason_of t }) e f
 
     by : (d : Bool) → covered w n o ≡ d → (c : Bool) → counted w n o ≡ c
         → verdict_of (cond d (cond (eqb (masks false openings w n o).opens 0) (by_bases (masks false openings w n o)) (by_subs (masks false openings w n o) (reads (masks false openings w n o)) (writes (masks false openings w n o)))) (by_default bus)) k
-        ≡ record { rule = cond c 2 (cond d 1 0); reason = reason_of (cond c (tests2 w n o k) (cond d (tests1 w n o k) (tests0 bus k))) }
+        ≡ record { rule = cond c Subregion (cond d Base Default); reason = reason_of (cond c (tests2 w n o k) (cond d (tests1 w n o k) (tests0 bus k))) }
     by true e true f =
         ap (λ (b : Bool). verdict_of (cond b (by_bases (masks false openings w n o)) (by_subs (masks false openings w n o) (reads (masks false openings w n o)) (writes (masks false openings w n o)))) k) (not-true (eqb (masks false openings w n o).opens 0) (counted_is w n o ∙ f))
-        ∙ verdict (by_subs (masks false openings w n o) (reads (masks false openings w n o)) (writes (masks false openings w n o))) 2 (tests2 w n o k) refl (subs-tests false openings w n o k h (λ e. absurd (true≢false (sym e))) _ _ (all-compartment w n o k h k.write))
+        ∙ verdict (by_subs (masks false openings w n o) (reads (masks false openings w n o)) (writes (masks false openings w n o))) Subregion (tests2 w n o k) refl (subs-tests false openings w n o k h (λ e. absurd (true≢false (sym e))) _ _ (all-compartment w n o k h k.write))
     by true e false f =
         ap (λ (b : Bool). verdict_of (cond b (by_bases (masks false openings w n o)) (by_subs (masks false openings w n o) (reads (masks false openings w n o)) (writes (masks false openings w n o)))) k) (not-false (eqb (masks false openings w n o).opens 0) (counted_is w n o ∙ f))
-        ∙ verdict (by_bases (masks false openings w n o)) 1 (tests1 w n o k) refl (bases-tests false openings w n o k h)
+        ∙ verdict (by_bases (masks false openings w n o)) Base (tests1 w n o k) refl (bases-tests false openings w n o k h)
     by false e true f = absurd (true≢false (sym f ∙ none-counted w o n e))
-    by false e false f = verdict (by_default bus) 0 (tests0 bus k) refl (default-tests false openings w n o k h bus)
+    by false e false f = verdict (by_default bus) Default (tests0 bus k) refl (default-tests false openings w n o k h bus)
 
 pub verdict-is : (bus : Bus) (w : List ℕ) (n o : ℕ) (k : Kind) → k.cid.0 ≤ 7
     → verdict_of (admitted bus w n o) (heard bus k) ≡ decided bus w n o k

@@ -2,11 +2,13 @@
 use mathlib.Core.Bool.{Bool, true, false, ◌&&◌, ◌||◌, cond, beq, and-true, or-false}
 use mathlib.Core.List.{List}
 use mathlib.Core.Path.{◌≡◌, refl, sym, ap, ap₂, ◌∙◌}
-use Prim.Native.Nat.{ℕ, ◌+◌, ◌-◌, ◌*◌, ◌/◌, ◌%◌, ◌^◌, ◌≤◌, ◌<◌}
+use Prim.Native.Nat.{ℕ, ◌-◌, ◌*◌, ◌%◌, ◌^◌, ◌≤◌, ◌<◌}
 use native.Mathlib.Omega.{arith}
 use lib.Bits.{bit_and, and_high, and_zero_r}
 use lib.Dec.{eqb}
 use lib.ListN.{get_or}
+use Rattle.std.specs.Prelude.{Option, Some, None}
+use Rattle.std.proofs.lemmas.Option.{cond_some, none-some}
 use Rattle.words.specs.Bit.{bit, field}
 use Rattle.words.proofs.Laws.{bit-zero, field_lt}
 use Rattle.words.proofs.Ops.{bit-or}
@@ -17,12 +19,14 @@ use Rattle.access.specs.declared.bus.Bus.TheVariants.{Axi}
 use Rattle.access.specs.declared.kind.Kind.{Kind}
 use Rattle.access.proofs.Folds.{any_same}
 use Rattle.regions.specs.Words.{sub, srcid_bit, rden_bit, wren_bit}
-use Rattle.regions.specs.Rules.{Tests, reason_of, rule_of, covers, counts, srcid, opens, some_sub, counted, covered, tests0, tests1, tests2, tests, decided}
+use Rattle.regions.specs.Rules.{reason_of, rule_of, covers, counts, srcid, opens, some_sub, counted, covered, tests0, tests1, tests2, tests, decided}
 use Rattle.regions.specs.Masks.{Next, masks, sub_gathered, serving, served_by}
-use Rattle.regions.specs.Admits.{all_if, by_asked, by_bases, by_subs, governed, packed, tests_of, verdict_of}
+use Rattle.regions.specs.Admits.{all_if, by_asked, by_bases, by_subs, governed, verdict_of}
 use Rattle.regions.specs.declared.masks.Masks.{Masks}
 use Rattle.regions.specs.declared.masks.Served.{Served}
-use Rattle.regions.specs.declared.rules.Verdict.{Verdict}
+use Rattle.regions.specs.declared.verdict.Reason.{Reason}
+use Rattle.regions.specs.declared.verdict.Rule.TheVariants.{Default, Base, Subregion}
+use Rattle.regions.specs.declared.verdict.Verdict.{Verdict}
 use Rattle.regions.proofs.AdmitsTests.{all-if, bases-tests, none-counted, some-covered, subs-tests}
 use Rattle.regions.proofs.MaskBits.{ap-cond, or-cond, some-sub}
 use Rattle.regions.proofs.Openings.{all-at, beq-is}
@@ -156,93 +160,47 @@ module _ (w : List ℕ) (n o : ℕ) (k : Kind) (h : k.cid.0 ≤ 7) where
     where
       by : (c : Bool) → bit m.opens 0 ≡ c
           → verdict_of (cond (bit m.opens 0) (by_subs m (all_if (bit m.opens den)) (all_if (bit m.opens den))) (by_bases m)) k
-          ≡ record { rule = cond c 2 1; reason = reason_of (cond c (tests2 w n o k) (tests1 w n o k)) }
+          ≡ record { rule = cond c Subregion Base; reason = reason_of (cond c (tests2 w n o k) (tests1 w n o k)) }
       by true f =
-          rw f (ap (λ t. record { rule = 2; reason = reason_of t }) (subs-tests p adds w n o k h (λ e. e) _ _ (may k.write (bit m.opens den) ∙ opened)))
-      by false f = rw f (ap (λ t. record { rule = 1; reason = reason_of t }) (bases-tests p adds w n o k h))
+          rw f (ap (λ t. record { rule = Subregion; reason = reason_of t }) (subs-tests p adds w n o k h (λ e. e) _ _ (may k.write (bit m.opens den) ∙ opened)))
+      by false f = rw f (ap (λ t. record { rule = Base; reason = reason_of t }) (bases-tests p adds w n o k h))
 
   -- in the code's calls, the direction by itself
   governed-as : (d : Bool) → k.write ≡ d → covered w n o ≡ true
-      → packed (verdict_of (by_asked (den_of d) m) (record { cid = k.cid; write = d; privileged = k.privileged; secure = k.secure }))
+      → Some (verdict_of (by_asked (den_of d) m) (record { cid = k.cid; write = d; privileged = k.privileged; secure = k.secure }))
       ≡ governed w n o k
-  governed-as d e f = rw (← e) (rw f (ap packed (asked_is f)))
+  governed-as d e f = rw (← e) (rw f (ap Some (asked_is f)))
 
   -- where the search found one
-  pub found_as : (d : Bool) → k.write ≡ d → {r : ℕ} → Next w o 0 n r → (r ≡ n → ⊥)
-      → packed (verdict_of (by_asked (den_of d) m) (record { cid = k.cid; write = d; privileged = k.privileged; secure = k.secure }))
+  pub found_as : (d : Bool) → k.write ≡ d → {r : ℕ} → Next w o n r
+      → Some (verdict_of (by_asked (den_of d) m) (record { cid = k.cid; write = d; privileged = k.privileged; secure = k.secure }))
       ≡ governed w n o k
-  found_as d e {r} next f =
-      let l : r < n = omega (arith, next.high, f) in
-      governed-as d e (some-covered w o n r l (next.found l))
+  found_as d e {r} next = governed-as d e (some-covered w o n r next.high next.found)
 
-  pub governed-none : covered w n o ≡ false → 0 ≡ governed w n o k
+  pub governed-none : covered w n o ≡ false → None ≡ governed w n o k
   governed-none e = rw e refl
-
--- ---- the verdict in one number
-
-pub reason-most : (t : Tests) → reason_of t ≤ 3
-reason-most t = go t.security t.privilege t.compartment
-  where
-    go : (a b c : Bool) → cond a (cond b (cond c 0 3) 2) 1 ≤ 3
-    go true true true = omega arith
-    go true true false = omega arith
-    go true false c = omega arith
-    go false b c = omega arith
-
--- of one asking
-pub asked-most : (den : ℕ) (m : Masks) (k : Kind) {v : Verdict} → v ≡ verdict_of (by_asked den m) k → (v.rule ≤ 2) × (v.reason ≤ 3)
-unfolding verdict_of by_asked by_subs by_bases
-asked-most den m k e = rw e (go (bit m.opens 0), reason-most (tests_of (by_asked den m) k))
-  where
-    go : (b : Bool) → (cond b (by_subs m (all_if (bit m.opens den)) (all_if (bit m.opens den))) (by_bases m)).rule ≤ 2
-    go true = omega arith
-    go false = omega arith
-
-unpacked : (a b : ℕ) → a ≤ 2 → ◌≡◌ {A = Verdict} (record { rule = (a + 4 * b) % 4; reason = (a + 4 * b) / 4 }) (record { rule = a; reason = b })
-unpacked a b h =
-    let r : (a + 4 * b) % 4 ≡ a = omega (arith, h) in
-    let q : (a + 4 * b) / 4 ≡ b = omega (arith, h) in
-    cc
 
 module _ (bus : Bus) (w : List ℕ) (n o : ℕ) (k : Kind) where
   abbrev h : Kind
   h = heard bus k
 
-  -- rule 1 or 2, by whether a subregion counts
-  ruled : Bool → Verdict
-  ruled c = record { rule = cond c 2 1; reason = reason_of (cond c (tests2 w n o h) (tests1 w n o h)) }
-
-  ruled-most : (c : Bool) → (1 ≤ (ruled c).rule) × ((ruled c).rule ≤ 2)
-  unfolding ruled
-  ruled-most true = (omega arith, omega arith)
-  ruled-most false = (omega arith, omega arith)
-
-  covered-by : (b : Bus) → covered w n o ≡ true
-      → ◌≡◌ {A = Verdict} (record { rule = rule_of w n o; reason = reason_of (tests b w n o h) }) (ruled (counted w n o))
-  unfolding tests ruled
-  covered-by b e = rw e refl
-
-  -- where it is 0, rule 0 governs
-  pub zero_default : governed w n o h ≡ 0 → {r : ℕ} → r ≡ reason_of (tests0 bus h) → ◌≡◌ {A = Verdict} (record { rule = 0; reason = r }) (decided bus w n o k)
+  -- the bus matters to rule 0 alone
+  covered-same : covered w n o ≡ true → decided Axi w n o h ≡ decided bus w n o k
   unfolding decided tests
-  zero_default z {r} e = go (covered w n o) refl
-    where
-      go : (c : Bool) → covered w n o ≡ c
-          → ◌≡◌ {A = Verdict} (record { rule = 0; reason = r }) (record { rule = rule_of w n o; reason = reason_of (tests bus w n o h) })
-      go true f =
-          let p : packed (ruled (counted w n o)) ≡ 0 = ap packed (sym (covered-by Axi f)) ∙ sym (ap (λ (b : Bool). cond b (packed (decided Axi w n o h)) 0) f) ∙ z in
-          let m = ruled-most (counted w n o) in
-          absurd (omega (arith, p, m.0))
-      go false f = rw (none-counted w o n f, f) (ap {B = Verdict} (λ r. record { rule = 0; reason = r }) e)
+  covered-same e = rw e refl
 
-  pub packed-decided : (governed w n o h ≡ 0 → ⊥)
-      → ◌≡◌ {A = Verdict} (record { rule = governed w n o h % 4; reason = governed w n o h / 4 }) (decided bus w n o k)
-  unfolding decided
-  packed-decided d = go (covered w n o) refl
+  pub governed_some : {v : Verdict} → governed w n o h ≡ Some v → v ≡ decided bus w n o k
+  governed_some e =
+      let p = cond_some (covered w n o) _ _ e in
+      sym p.1 ∙ covered-same p.0
+
+  -- where there is none, rule 0 governs
+  pub governed-default : governed w n o h ≡ None → {r : Option Reason} → r ≡ reason_of (tests0 bus h)
+      → ◌≡◌ {A = Verdict} (record { rule = Default; reason = r }) (decided bus w n o k)
+  unfolding decided tests
+  governed-default z {r} e = go (covered w n o) refl z
     where
-      go : (c : Bool) → covered w n o ≡ c
-          → ◌≡◌ {A = Verdict} (record { rule = governed w n o h % 4; reason = governed w n o h / 4 }) (decided bus w n o k)
-      go true f =
-          let p : governed w n o h ≡ packed (ruled (counted w n o)) = ap (λ (b : Bool). cond b (packed (decided Axi w n o h)) 0) f ∙ ap packed (covered-by Axi f) in
-          rw p (unpacked _ _ (ruled-most (counted w n o)).1) ∙ sym (covered-by bus f)
-      go false f = absurd (d (ap (λ (b : Bool). cond b (packed (decided Axi w n o h)) 0) f))
+      go : (c : Bool) → covered w n o ≡ c → cond c (Some (decided Axi w n o h)) None ≡ None
+          → ◌≡◌ {A = Verdict} (record { rule = Default; reason = r }) (record { rule = rule_of w n o; reason = reason_of (tests bus w n o h) })
+      go true f q = absurd (none-some _ (sym q))
+      go false f q = rw (none-counted w o n f, f) (ap {B = Verdict} (λ r. record { rule = Default; reason = r }) e)

@@ -5,6 +5,7 @@ use mathlib.Core.Path.{◌≡◌, ap, ap₂}
 use Prim.Native.Nat.{ℕ, ◌*◌, ◌≤◌}
 use lib.ListN.{length}
 use borrow.Author.Tests.{le-leb}
+use Rattle.std.specs.Prelude.{Some}
 use Rattle.access.specs.declared.bus.Bus.{Bus}
 use Rattle.access.specs.declared.kind.Kind.{Kind}
 use Rattle.regions.specs.Active.{active, active_in, none_active}
@@ -12,6 +13,8 @@ use Rattle.regions.specs.Ahead.{ahead, ahead_in}
 use Rattle.regions.specs.Lent.{enough, decided_in, rights_in}
 use Rattle.regions.specs.Rights.{rights_word}
 use Rattle.regions.specs.Rules.{decided}
+use Rattle.regions.specs.declared.verdict.Reason.TheVariants.{Compartment}
+use Rattle.regions.specs.declared.verdict.Rule.TheVariants.{Default}
 
 module _ (bus : Bus) (w : List ℕ) (n o : ℕ) (h : n ≤ 11) (l : 12 * n ≤ length w) where
   is-enough : enough w n ≡ true
@@ -20,7 +23,7 @@ module _ (bus : Bus) (w : List ℕ) (n o : ℕ) (h : n ≤ 11) (l : 12 * n ≤ l
   pub decided-enough : (k : Kind) → k.cid.0 ≤ 7 → decided_in bus w n o k ≡ decided bus w n o k
   unfolding decided_in
   decided-enough k m =
-      ap (λ (b : Bool). cond b (decided bus w n o k) (record { rule = 0; reason = 3 }))
+      ap (λ (b : Bool). cond b (decided bus w n o k) (record { rule = Default; reason = Some Compartment }))
       (ap₂ ◌&&◌ is-enough (le-leb k.cid.0 7 m))
 
   pub rights-enough : rights_in bus w n o ≡ rights_word bus w n o

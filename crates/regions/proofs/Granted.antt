@@ -3,23 +3,24 @@ use mathlib.Core.Bool.{Bool, true, false, not, ◌&&◌, ◌||◌, cond, and-fal
 use mathlib.Core.List.{List}
 use mathlib.Core.Path.{◌≡◌, refl, sym, ap, ◌∙◌}
 use Prim.Native.Nat.{ℕ, zero, suc}
-use lib.Dec.{eqb}
+use Rattle.std.specs.Prelude.{Some, None, is_none}
 use Rattle.access.specs.Bus.{heard}
 use Rattle.access.specs.Fold.{all}
 use Rattle.access.specs.declared.bus.Bus.{Bus}
 use Rattle.access.specs.declared.kind.Kind.{Kind}
 use Rattle.regions.specs.Words.{base}
 use Rattle.regions.specs.Rules.{Tests, reason_of, covers, tests0, tests1, tests2, counted, covered, sec_equal, privc_passed, enabled_for, tests, decided, granted}
+use Rattle.regions.specs.declared.verdict.Reason.TheVariants.{Security, Privilege, Compartment}
 use Rattle.regions.specs.Grants.{grants0, grants1, grants2, rule_grants}
 
 -- all three pass
 abbrev passed : Tests → Bool
 passed t = t.security && t.privilege && t.compartment
 
-pub all_pass : (t : Tests) → eqb (reason_of t) 0 ≡ passed t
+pub all_pass : (t : Tests) → is_none (reason_of t) ≡ passed t
 all_pass t = go t.security t.privilege t.compartment
   where
-    go : (a b c : Bool) → eqb (cond a (cond b (cond c 0 3) 2) 1) 0 ≡ (a && b && c)
+    go : (a b c : Bool) → is_none (cond a (cond b (cond c None (Some Compartment)) (Some Privilege)) (Some Security)) ≡ (a && b && c)
     go true true true = refl
     go true true false = refl
     go true false c = refl

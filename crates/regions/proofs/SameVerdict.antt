@@ -9,7 +9,8 @@ use Rattle.access.specs.declared.kind.Kind.{Kind}
 use Rattle.access.proofs.Folds.{any_same, all_same}
 use Rattle.regions.specs.Words.{base}
 use Rattle.regions.specs.Rules.{Tests, reason_of, covers, counts, sec_equal, privc_passed, enabled_for, working_sec, working_priv, opens, every_base, some_sub, every_sub, tests0, tests1, tests2, counted, covered, tests, decided}
-use Rattle.regions.specs.declared.rules.Verdict.{Verdict}
+use Rattle.regions.specs.declared.verdict.Rule.TheVariants.{Default, Base, Subregion}
+use Rattle.regions.specs.declared.verdict.Verdict.{Verdict}
 
 -- what base region x says to a kind of asking, and what its subregion s does
 abbrev pub BaseSays : List ℕ → List ℕ → Kind → ℕ → Type 0
@@ -53,7 +54,7 @@ module _ (bus : Bus) (w w' : List ℕ) (n o o' : ℕ) (k : Kind) (cover : (x : �
   -- the verdict, by the rule that governs
   verdict : Bool → Bool → Tests → Tests → Verdict
   verdict c d one two =
-      record { rule = cond c 2 (cond d 1 0); reason = reason_of (cond c two (cond d one (tests0 bus h))) }
+      record { rule = cond c Subregion (cond d Base Default); reason = reason_of (cond c two (cond d one (tests0 bus h))) }
 
   pub same-verdict : decided bus w n o k ≡ decided bus w' n o' k
   unfolding decided tests verdict

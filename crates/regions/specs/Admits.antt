@@ -1,6 +1,6 @@
 -- What the code of the rules and of the rights word goes by: the three tests of the rule that governs an offset, for all compartments at
 -- once, bit c of a mask for CID c. proofs/AdmitsTests has the law that they are Rules.antt's.
-use Rattle.std.specs.Prelude.{Bool, true, false, not, ◌||◌, cond, List, ℕ, ◌+◌, ◌*◌, ◌/◌, ◌^◌, eqb}
+use Rattle.std.specs.Prelude.{Bool, true, false, not, ◌||◌, cond, List, ℕ, ◌+◌, ◌*◌, ◌/◌, ◌^◌, eqb, Option, Some, None}
 use Rattle.std.specs.Int.Bits.{bit_or}
 use Rattle.words.specs.Bit.{bit, one, word, field}
 use Rattle.access.specs.Kind.{kind_of}
@@ -12,7 +12,8 @@ use Rattle.regions.specs.Rules.{Tests, reason_of, granted, covered, decided}
 use Rattle.regions.specs.Masks.{masks, openings}
 use Rattle.regions.specs.declared.admits.Admits.{Admits}
 use Rattle.regions.specs.declared.masks.Masks.{Masks}
-use Rattle.regions.specs.declared.rules.Verdict.{Verdict}
+use Rattle.regions.specs.declared.verdict.Rule.TheVariants.{Default, Base, Subregion}
+use Rattle.regions.specs.declared.verdict.Verdict.{Verdict}
 
 -- ---- by the rule that governs
 
@@ -24,13 +25,13 @@ defaults Ahb = 0xff
 -- rule 0: secure; no compartment unprivileged
 unfoldable pub by_default : Bus → Admits
 by_default bus =
-    record { rule = 0; secure = true; nonsecure = false; closed = 0xff; reads = defaults bus; writes = defaults bus }
+    record { rule = Default; secure = true; nonsecure = false; closed = 0xff; reads = defaults bus; writes = defaults bus }
 
 -- rule 1, with CID 7 enabled
 unfoldable pub by_bases : Masks → Admits
 by_bases m =
     record {
-      rule = 1;
+      rule = Base;
       secure = bit m.every sec_bit;
       nonsecure = not (bit m.some sec_bit);
       closed = m.some / 2 ^ privc_bit 0;
@@ -50,7 +51,7 @@ all_if b = cond b 0xff 0
 unfoldable pub by_subs : Masks → ℕ → ℕ → Admits
 by_subs m reads writes =
     record {
-      rule = 2;
+      rule = Subregion;
       secure = bit m.secure sec_bit;
       nonsecure = not (bit m.secure sec_bit);
       closed = all_if (bit m.privileged priv_bit);
@@ -116,13 +117,9 @@ tests_of a k =
 unfoldable pub verdict_of : Admits → Kind → Verdict
 verdict_of a k = record { rule = a.rule; reason = reason_of (tests_of a k) }
 
--- a verdict in one number
-abbrev pub packed : Verdict → ℕ
-packed v = v.rule + 4 * v.reason
-
--- that of rule 1 or 2, or 0 where rule 0 governs
-abbrev pub governed : List ℕ → ℕ → ℕ → Kind → ℕ
-governed w n o k = cond (covered w n o) (packed (decided Axi w n o k)) 0
+-- that of rule 1 or 2, or none where rule 0 governs
+abbrev pub governed : List ℕ → ℕ → ℕ → Kind → Option Verdict
+governed w n o k = cond (covered w n o) (Some (decided Axi w n o k)) None
 
 -- ---- the rights
 

@@ -94,9 +94,8 @@ Passed w o from r = (y : ℕ) → from ≤ y → y < r → covers w (base y) o �
 abbrev pub some_enabled : List ℕ → ℕ → Bool
 some_enabled w n = any n (λ x. bit (get_or w (base x) 0) enable_bit)
 
--- r is the next base region from `from` on that covers, or n
-pub record Next (w : List ℕ) (o from n r : ℕ) : Type 0 where
-  pub low : from ≤ r
-  pub high : r ≤ n
-  pub passed : Passed w o from r
-  pub found : r < n → covers w (base r) o ≡ true
+-- r is the first of n base regions that covers
+pub record Next (w : List ℕ) (o n r : ℕ) : Type 0 where
+  pub high : r < n
+  pub passed : Passed w o 0 r
+  pub found : covers w (base r) o ≡ true

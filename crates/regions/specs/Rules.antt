@@ -1,7 +1,7 @@
 -- Which rule governs an offset, and which of its tests a kind of asking fails: document 01, "Which rule governs", and document 02, Q-5,
 -- "Each test is made over all governing regions before the next begins, and the first that fails is the reason".
 -- w are the words of a guard's regions, n its count of base regions, o the offset, k the kind of asking, as the guard's bus hears it.
-use Rattle.std.specs.Prelude.{Bool, true, not, ◌&&◌, ◌||◌, cond, List, ℕ, ◌+◌, eqb, get_or}
+use Rattle.std.specs.Prelude.{Bool, true, not, ◌&&◌, ◌||◌, cond, List, ℕ, ◌+◌, get_or, Option, Some, None, is_none}
 use Rattle.std.specs.Bool.{beq}
 use Rattle.words.specs.Bit.{bit, field}
 use Rattle.access.specs.Bus.{heard}
@@ -13,7 +13,11 @@ use Rattle.access.specs.declared.bus.Bus.TheVariants.{Axi, Ahb}
 use Rattle.access.specs.declared.kind.Cid.{Cid}
 use Rattle.access.specs.declared.kind.Kind.{Kind}
 use Rattle.regions.specs.Words.{start_at, end_at, cidcfgr_at, base, sub, enable_bit, sec_bit, privc_bit, srcid_bit, priv_bit, rden_bit, wren_bit, read_bit, write_bit}
-use Rattle.regions.specs.declared.rules.Verdict.{Verdict}
+use Rattle.regions.specs.declared.verdict.Reason.{Reason}
+use Rattle.regions.specs.declared.verdict.Reason.TheVariants.{Security, Privilege, Compartment}
+use Rattle.regions.specs.declared.verdict.Rule.{Rule}
+use Rattle.regions.specs.declared.verdict.Rule.TheVariants.{Default, Base, Subregion}
+use Rattle.regions.specs.declared.verdict.Verdict.{Verdict}
 
 -- ---- one region
 
@@ -41,9 +45,9 @@ pub record Tests : Type 0 where
   -- and the direction
   pub compartment : Bool
 
--- the first that fails: 1 security, 2 privilege, 3 compartment or direction; 0 where none does
-abbrev pub reason_of : Tests → ℕ
-reason_of t = cond t.security (cond t.privilege (cond t.compartment 0 3) 2) 1
+-- the first that fails: security, privilege, compartment or direction; none where none does
+abbrev pub reason_of : Tests → Option Reason
+reason_of t = cond t.security (cond t.privilege (cond t.compartment None (Some Compartment)) (Some Privilege)) (Some Security)
 
 -- ---- rule 0
 
@@ -128,8 +132,8 @@ counted w n o = any n (λ x. any 2 (counts w o x))
 abbrev pub covered : List ℕ → ℕ → ℕ → Bool
 covered w n o = any n (λ x. covers w (base x) o)
 
-abbrev pub rule_of : List ℕ → ℕ → ℕ → ℕ
-rule_of w n o = cond (counted w n o) 2 (cond (covered w n o) 1 0)
+abbrev pub rule_of : List ℕ → ℕ → ℕ → Rule
+rule_of w n o = cond (counted w n o) Subregion (cond (covered w n o) Base Default)
 
 -- its tests
 unfoldable pub tests : Bus → List ℕ → ℕ → ℕ → Kind → Tests
@@ -141,4 +145,4 @@ decided bus w n o k = record { rule = rule_of w n o; reason = reason_of (tests b
 
 -- granted: no test fails
 abbrev pub granted : Verdict → Bool
-granted v = eqb v.reason 0
+granted v = is_none v.reason

@@ -26,9 +26,8 @@ fn with_region(w: &[u32], x: usize, o: u32, a: Active) -> Active
     }
     if o < w[b + START] {
         return Active {
-            low: a.low,
-            high: a.high,
             to: start_ahead(w[b + START], a.to),
+            ..a
         };
     }
     if w[b + END] < o {
@@ -38,7 +37,7 @@ fn with_region(w: &[u32], x: usize, o: u32, a: Active) -> Active
     Active {
         low,
         high: x + 1,
-        to: a.to,
+        ..a
     }
 }
 
@@ -58,10 +57,8 @@ pub fn active_at(w: &[u32], n: usize, o: u32, to: u64) -> Active
         return a;
     }
     // Where none is enabled, which is told without a loop, none has to be looked at.
-    if REGION_WORDS * MOST_REGIONS <= w.len() {
-        if none_enabled(w) {
-            return a;
-        }
+    if REGION_WORDS * MOST_REGIONS <= w.len() && none_enabled(w) {
+        return a;
     }
     for x in 0..n {
         a = with_region(w, x, o, a);

@@ -4,13 +4,14 @@ ghost use Rattle.regions.specs.Admits.{admits_security, all_if, as_heard, by_ask
 
 use crate::masks::Masks;
 use crate::places::{ENABLE, PRIV, PRIVC, READS, SEC, WRITES};
+use crate::verdict::Rule;
 use access::Bus;
 
 // Who passes the tests of the rule that governs an offset, in their order: security, privilege, compartment and direction. Bit c of a
 // mask is CID c; what is above bit 7 means nothing.
 #[derive(Clone, Copy)]
 pub(crate) struct Admits {
-    pub(crate) rule: u32,
+    pub(crate) rule: Rule,
     pub(crate) secure: bool,
     pub(crate) nonsecure: bool,
     // The compartments that fail where unprivileged.
@@ -42,7 +43,7 @@ pub(crate) fn by_default(bus: Bus) -> Admits
 {
     let compartments = defaults(bus);
     Admits {
-        rule: 0,
+        rule: Rule::Default,
         secure: true,
         nonsecure: false,
         closed: ALL,
@@ -56,7 +57,7 @@ fn by_bases(m: Masks) -> Admits
     ensures { result ≡ by_bases m }
 {
     Admits {
-        rule: 1,
+        rule: Rule::Base,
         secure: (m.every >> SEC) % 2 == 1,
         nonsecure: !((m.some >> SEC) % 2 == 1),
         closed: m.some >> PRIVC,
@@ -89,7 +90,7 @@ fn by_subs(m: Masks, reads: u32, writes: u32) -> Admits
     let secure = (m.secure >> SEC) % 2 == 1;
     let closed = all_if((m.privileged >> PRIV) % 2 == 1);
     Admits {
-        rule: 2,
+        rule: Rule::Subregion,
         secure,
         nonsecure: !secure,
         closed,
@@ -140,12 +141,10 @@ pub(crate) fn all_as_zero(a: Admits) -> Admits
     let reads = all_if((a.reads >> 0) % 2 == 1);
     let writes = all_if((a.writes >> 0) % 2 == 1);
     Admits {
-        rule: a.rule,
-        secure: a.secure,
-        nonsecure: a.nonsecure,
         closed,
         reads,
         writes,
+        ..a
     }
 }
 

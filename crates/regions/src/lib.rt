@@ -10,7 +10,9 @@ pub mod places;
 mod rights;
 pub mod rules;
 mod scan;
+mod verdict;
 
 pub use active::{Active, active_at};
 pub use rights::{Stretch, rights_at, stretch_at};
-pub use rules::{NO_REASON, Verdict, decide};
+pub use rules::decide;
+pub use verdict::{Reason, Rule, Verdict};

@@ -1,4 +1,4 @@
-ghost use Rattle.std.specs.Prelude.{◌≡◌, ◌+◌, ◌*◌, ◌≤◌, ◌<◌, length, false, not, true};
+ghost use Rattle.std.specs.Prelude.{◌≡◌, ◌+◌, ◌*◌, ◌≤◌, ◌<◌, length, false, not, true, MatchOption};
 ghost use Rattle.words.specs.Bit.{field};
 ghost use Rattle.regions.specs.Words.{base, end_at, most_regions, region_words, srcid_bit};
 ghost use Rattle.regions.specs.Rules.{covers};
@@ -109,9 +109,7 @@ pub(crate) fn with_base(cfgr: u32, cidcfgr: u32, m: Masks) -> Masks
         some: m.some | cfgr,
         every: m.every & cfgr,
         enables: m.enables & cidcfgr,
-        secure: m.secure,
-        privileged: m.privileged,
-        opens: m.opens,
+        ..m
     }
 }
 
@@ -120,14 +118,10 @@ pub(crate) fn with_base(cfgr: u32, cidcfgr: u32, m: Masks) -> Masks
 fn with_sub_privileged(base: u32, sub: u32, opens: u32, m: Masks) -> Masks
     ensures { result ≡ with_sub true base sub opens m }
 {
-    let opens = m.opens | opens;
     Masks {
-        some: m.some,
-        every: m.every,
-        enables: m.enables,
         secure: m.secure & (sub & base),
-        privileged: m.privileged,
-        opens,
+        opens: m.opens | opens,
+        ..m
     }
 }
 
@@ -136,9 +130,10 @@ pub(crate) fn with_sub(base: u32, sub: u32, opens: u32, m: Masks) -> Masks
     ensures { result ≡ with_sub false base sub opens m }
 {
     let srcid = srcid(sub);
-    let mut next = with_sub_privileged(base, sub, opens, m);
-    next.privileged = m.privileged & (sub & ((base >> srcid.0) >> (PRIVC - PRIV)));
-    next
+    Masks {
+        privileged: m.privileged & (sub & ((base >> srcid.0) >> (PRIVC - PRIV))),
+        ..with_sub_privileged(base, sub, opens, m)
+    }
 }
 
 // With what subregion s of base region x, which covers, says.
@@ -191,19 +186,12 @@ pub(crate) fn none_enabled(w: &[u32]) -> bool
     !((some >> ENABLE) % 2 == 1)
 }
 
-// The next base region from `from` on that covers the offset, or n.
-pub(crate) fn next_covering(w: &[u32], from: usize, n: usize, o: u32) -> usize
-    requires { (from ≤ n) × (base n ≤ length w.now) }
-    ensures { Next w.now o from n result }
+// The first of n base regions that covers the offset.
+pub(crate) fn next_covering(w: &[u32], n: usize, o: u32) -> Option<usize>
+    requires { base n ≤ length w.now }
+    ensures { MatchOption result (Passed w.now o 0 n) (Next w.now o n) }
 {
-    let mut x = from;
-    while x < n {
-        if covers(w, REGION_WORDS * x, o) {
-            return x;
-        }
-        x += 1;
-    }
-    x
+    (0..n).find(|&x| covers(w, REGION_WORDS * x, o))
 }
 
 // What the first n base regions say to one asking: none below `from` covers.

@@ -2,48 +2,32 @@ ghost use Rattle.std.specs.Prelude.{◌≡◌, ◌≤◌, length};
 ghost use Rattle.access.specs.Kind.{debugger};
 ghost use Rattle.regions.specs.Lent.{decided_in};
 ghost use Rattle.regions.specs.Rules.{is_default, reason_of, tests0};
-ghost use Rattle.regions.specs.Admits.{by_asked, governed, packed, tests_of, verdict_of};
+ghost use Rattle.regions.specs.Admits.{by_asked, governed, tests_of, verdict_of};
 ghost use Rattle.regions.specs.Masks.{Passed, masks, served_by, serving};
 ghost use Rattle.regions.specs.Words.{base, most_regions, wren_bit};
 
 use crate::admits::{Admits, admits_security, by_asked, defaults, open_to};
 use crate::masks::{gathered, next_covering, none_enabled, served_by};
 use crate::places::{MOST_REGIONS, RDEN, REGION_WORDS, WREN};
+use crate::verdict::{Reason, Rule, Verdict};
 use access::{Bus, Cid, DEBUGGER, Kind};
 
-// The rule that governs an offset (0 default, 1 base region, 2 subregion), and the first of its tests that fails: NO_REASON where the
-// access is granted.
-#[derive(Clone, Copy)]
-pub struct Verdict {
-    pub rule: u32,
-    pub reason: u32,
-}
-
-pub const NO_REASON: u32 = 0;
-
-const SECURITY: u32 = 1;
-
-const PRIVILEGE: u32 = 2;
-
-// Or the direction.
-const COMPARTMENT: u32 = 3;
-
 // The first test that a kind of asking fails.
-fn reason(a: Admits, k: Kind) -> u32
+fn reason(a: Admits, k: Kind) -> Option<Reason>
     requires { k.cid.0 ≤ debugger.0 }
     ensures { result ≡ reason_of (tests_of a k) }
 {
     let cid = k.cid.0;
     if !admits_security(a, k.secure) {
-        return SECURITY;
+        return Some(Reason::Security);
     }
     if !k.privileged & ((a.closed >> cid) % 2 == 1) {
-        return PRIVILEGE;
+        return Some(Reason::Privilege);
     }
     if (open_to(a, k.write) >> cid) % 2 == 1 {
-        return NO_REASON;
+        return None;
     }
-    COMPARTMENT
+    Some(Reason::Compartment)
 }
 
 // The verdict on a kind of asking.
@@ -67,23 +51,23 @@ fn is_default(bus: Bus, k: Kind) -> bool
 }
 
 // The first test of rule 0 that a kind of asking fails.
-fn default_reason(bus: Bus, k: Kind) -> u32
+fn default_reason(bus: Bus, k: Kind) -> Option<Reason>
     requires { k.cid.0 ≤ debugger.0 }
     ensures { result ≡ reason_of (tests0 bus k) }
 {
     if !k.secure {
-        return SECURITY;
+        return Some(Reason::Security);
     }
     if !k.privileged {
-        return PRIVILEGE;
+        return Some(Reason::Privilege);
     }
     if is_default(bus, k) {
-        return NO_REASON;
+        return None;
     }
-    COMPARTMENT
+    Some(Reason::Compartment)
 }
 
-// The verdict of rule 1 or 2, packed. None of the base regions below `first` covers. Bit den of a subregion's CFGR enables the direction.
+// The verdict of rule 1 or 2. None of the base regions below `first` covers. Bit den of a subregion's CFGR enables the direction.
 // What the loop over the regions does not look at comes last: it is handed on in memory, and leaves the registers to the loop.
 fn by_regions(
     w: &[u32],
@@ -95,9 +79,9 @@ fn by_regions(
     cid: Cid,
     write: bool,
     secure: bool,
-) -> u32
+) -> Verdict
     requires { (first ≤ n) × (base n ≤ length w.now) × Passed w.now o 0 first × (cid.0 ≤ debugger.0) × (den ≤ wren_bit) }
-    ensures { result ≡ packed (verdict_of (by_asked den (masks privileged (serving (served_by cid.0)) w.now n o)) (record { cid = cid; write = write; privileged = privileged; secure = secure })) }
+    ensures { result ≡ verdict_of (by_asked den (masks privileged (serving (served_by cid.0)) w.now n o)) (record { cid = cid; write = write; privileged = privileged; secure = secure }) }
 {
     // A part that is the whole: a slice made here is known to the compiler, which then hands w on in registers.
     let words = &w[0..];
@@ -108,30 +92,24 @@ fn by_regions(
         privileged,
         secure,
     };
-    let v = judged(by_asked(m, den), k);
-    v.rule + 4 * v.reason
+    judged(by_asked(m, den), k)
 }
 
-// The same where some base region covers, else 0. A direction has its own call, with its own bit: the compiler then leaves it a call, in
+// The same where some base region covers. A direction has its own call, with its own bit: the compiler then leaves it a call, in
 // which there are registers enough.
-fn governed(w: &[u32], n: usize, o: u32, k: Kind) -> u32
+fn governed(w: &[u32], n: usize, o: u32, k: Kind) -> Option<Verdict>
     requires { (n ≤ most_regions) × (base n ≤ length w.now) × (k.cid.0 ≤ debugger.0) }
     ensures { result ≡ governed w.now n o k }
 {
-    if REGION_WORDS * MOST_REGIONS <= w.len() {
-        if none_enabled(w) {
-            return 0;
-        }
+    if REGION_WORDS * MOST_REGIONS <= w.len() && none_enabled(w) {
+        return None;
     }
-    let first = next_covering(w, 0, n, o);
-    if first == n {
-        return 0;
-    }
+    let first = next_covering(w, n, o)?;
     let cid = k.cid;
     if k.write {
-        return by_regions(w, first, n, o, k.privileged, WREN, cid, true, k.secure);
+        return Some(by_regions(w, first, n, o, k.privileged, WREN, cid, true, k.secure));
     }
-    by_regions(w, first, n, o, k.privileged, RDEN, cid, false, k.secure)
+    Some(by_regions(w, first, n, o, k.privileged, RDEN, cid, false, k.secure))
 }
 
 // The verdict at an offset, by the words of n base regions. Too few words, or a CID over 7, are refused for the compartment.
@@ -139,8 +117,8 @@ pub fn decide(bus: Bus, w: &[u32], n: usize, o: u32, k: Kind) -> Verdict
     ensures { result ≡ decided_in bus w.now n o k }
 {
     let nothing = Verdict {
-        rule: 0,
-        reason: COMPARTMENT,
+        rule: Rule::Default,
+        reason: Some(Reason::Compartment),
     };
     if MOST_REGIONS < n {
         return nothing;
@@ -152,13 +130,11 @@ pub fn decide(bus: Bus, w: &[u32], n: usize, o: u32, k: Kind) -> Verdict
         return nothing;
     }
     let heard = bus.hears(k);
-    let v = governed(w, n, o, heard);
-    if v == 0 {
-        let reason = default_reason(bus, heard);
-        return Verdict { rule: 0, reason };
+    if let Some(verdict) = governed(w, n, o, heard) {
+        return verdict;
     }
     Verdict {
-        rule: v % 4,
-        reason: v / 4,
+        rule: Rule::Default,
+        reason: default_reason(bus, heard),
     }
 }

@@ -26,10 +26,9 @@ fn sub_scanned(w: &[u32], x: usize, s: usize, o: u32, scan: Scan) -> Scan
         return scan;
     }
     if o < w[p + START] {
-        let masks = scan.masks;
         return Scan {
-            masks,
             to: start_ahead(w[p + START], scan.to),
+            ..scan
         };
     }
     if w[p + END] < o {
@@ -67,10 +66,9 @@ fn base_scanned(w: &[u32], x: usize, o: u32, s: Scan) -> Scan
         return s;
     }
     if o < w[b + START] {
-        let masks = s.masks;
         return Scan {
-            masks,
             to: start_ahead(w[b + START], s.to),
+            ..s
         };
     }
     if w[b + END] < o {

@@ -4,6 +4,7 @@ use mathlib.Core.List.{List}
 use mathlib.Core.Path.{◌≡◌}
 use Prim.Native.Nat.{ℕ, ◌^◌, ◌<◌}
 use lib.Dec.{lit<}
+use Rattle.std.specs.Prelude.{Some, None}
 use Rattle.words.specs.Bit.{bit, masked, united}
 use Rattle.words.proofs.Laws.{word_lt}
 use Rattle.access.specs.Answer.{number_of, value_of}
@@ -21,6 +22,9 @@ use Rattle.iac.specs.Port.{read_of as iac-read_of, answer_of as iac-answer_of, s
 use Rattle.risaf.specs.Port.{read_of, answer_of, accessed, stepped}
 use Rattle.risaf.specs.Guards.{shape_of}
 use Rattle.risaf.specs.Memory.{memory_answer, memory_stepped}
+use Rattle.regions.specs.Verdict.{rule_number, refused_number}
+use Rattle.regions.specs.declared.verdict.Reason.TheVariants.{Security, Privilege, Compartment}
+use Rattle.regions.specs.declared.verdict.Rule.TheVariants.{Default, Base, Subregion}
 use Rattle.regions.specs.Rules.{Tests, reason_of, counted, covered, rule_of, tests, decided}
 use Rattle.device.specs.Applied.{sized, applied_answer}
 use Rattle.device.specs.Layout.{state_of}
@@ -60,18 +64,18 @@ gives-few q w h = go q.write
     go false = h
 
 -- the rules are 0, 1 and 2, the reasons at most 3
-rule-few : (w : List ℕ) (n o : ℕ) → rule_of w n o < 2 ^ 32
+rule-few : (w : List ℕ) (n o : ℕ) → rule_number (rule_of w n o) < 2 ^ 32
 rule-few w n o = go (counted w n o) (covered w n o)
   where
-    go : (b c : Bool) → cond b 2 (cond c 1 0) < 2 ^ 32
+    go : (b c : Bool) → rule_number (cond b Subregion (cond c Base Default)) < 2 ^ 32
     go true c = lit< tt
     go false true = lit< tt
     go false false = lit< tt
 
-reason-few : (t : Tests) → reason_of t < 2 ^ 32
+reason-few : (t : Tests) → refused_number (reason_of t) < 2 ^ 32
 reason-few t = go t.security t.privilege t.compartment
   where
-    go : (a b c : Bool) → cond a (cond b (cond c 0 3) 2) 1 < 2 ^ 32
+    go : (a b c : Bool) → refused_number (cond a (cond b (cond c None (Some Compartment)) (Some Privilege)) (Some Security)) < 2 ^ 32
     go true true true = lit< tt
     go true true false = lit< tt
     go true false c = lit< tt
@@ -98,7 +102,7 @@ memory-few there n o width k s =
     let w = (guard_of s n).regions in
     let m = shape.regions in
     let t = tests shape.bus w m o (heard shape.bus k) in
-    answered-few _ (rule_of w m o) (reason_of t) (rule-few w m o) (reason-few t)
+    answered-few _ (rule_number (rule_of w m o)) (refused_number (reason_of t)) (rule-few w m o) (reason-few t)
 
 step-few : (e : Event) (s : State) → value_of (step e s).answer < 2 ^ 32
 unfolding step peripheral_step

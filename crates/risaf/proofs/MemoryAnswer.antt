@@ -21,7 +21,8 @@ use Rattle.risaf.specs.Memory.{is_width, memory_checks, memory_answer, memory_ch
 use Rattle.regions.specs.Rules.{decided, granted}
 use Rattle.regions.specs.Words.{base, most_regions}
 use Rattle.risaf.specs.declared.guards.Shape.{Shape}
-use Rattle.regions.specs.declared.rules.Verdict.{Verdict}
+use Rattle.regions.specs.Verdict.{rule_number, refused_number}
+use Rattle.regions.specs.declared.verdict.Verdict.{Verdict}
 use Rattle.regions.proofs.Enough.{decided-enough}
 
 -- ---- the tests
@@ -74,7 +75,7 @@ module _ (there : Bool) (shape : Shape) (o width : ℕ) (k : Kind) where
 
 -- what the rules' verdict answers
 abbrev pub ruled : Verdict → Answer
-ruled v = unless (granted v) (Refused v.reason) (Done v.rule)
+ruled v = unless (granted v) (Refused (refused_number v.reason)) (Done (rule_number v.rule))
 
 -- the rules are asked only where nothing rejects the access
 abbrev pub onward : Answer → Answer → Answer

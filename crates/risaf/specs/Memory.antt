@@ -10,7 +10,8 @@ use Rattle.access.specs.declared.answer.Answer.{Answer}
 use Rattle.access.specs.declared.checks.Checks.{Checks}
 use Rattle.access.specs.declared.kind.Kind.{Kind}
 use Rattle.regions.specs.Rules.{decided, granted}
-use Rattle.regions.specs.declared.rules.Verdict.{Verdict}
+use Rattle.regions.specs.Verdict.{rule_number, refused_number}
+use Rattle.regions.specs.declared.verdict.Verdict.{Verdict}
 use Rattle.risaf.specs.Port.{Stepped}
 use Rattle.risaf.specs.Rows.{of_head}
 use Rattle.risaf.specs.declared.contents.Guard.{Guard}
@@ -38,7 +39,7 @@ memory_checks there shape o width k allowed =
 -- a granted access gives which rule governed, a refused one the reason
 unfoldable pub memory_answer : Bool → Shape → ℕ → ℕ → Kind → Verdict → Answer
 memory_answer there shape o width k verdict =
-    answered_with (memory_checks there shape o width k (granted verdict)) verdict.rule verdict.reason
+    answered_with (memory_checks there shape o width k (granted verdict)) (rule_number verdict.rule) (refused_number verdict.reason)
 
 -- what the code goes by, before it asks the rules: the answer if they grant
 unfoldable pub memory_checked : Bool → Shape → ℕ → ℕ → Kind → Answer

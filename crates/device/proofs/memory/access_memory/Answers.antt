@@ -1,6 +1,7 @@
 use mathlib.Core.Path.{ap, ◌∙◌}
 use Prim.Native.Nat.{◌<◌}
 use lib.ListN.{length}
+use Rattle.access.specs.declared.answer.Answer.TheVariants.{Done, Refused}
 use Rattle.risaf.specs.Guards.{guard_count}
 use Rattle.risaf.specs.Memory.{faulted}
 use Rattle.risaf.proofs.Shapes.{place-lt}
@@ -18,16 +19,6 @@ returns-in_default c =
     c.in_default.not-Done in
     record { answer = all.0; next = all.1 }
 
-pub returns-then-verdict-eq-NO_REASON : goal.returns-then-verdict-eq-NO_REASON
-returns-then-verdict-eq-NO_REASON c =
-    let a = c.args in
-    let es = c.shape-shape.ensures in
-    let l : c.shape-shape.result.place < guard_count = rw es (place-lt _) in
-    let ew = c.region_words.ensures ∙ regions-read a.state.now _ c.told-state l in
-    let all = memory-granted (state_of a.state.now) a.there a.guard.0 a.o a.width a.k es c.memory_checked-checked.ensures
-    c.in-Done.is ew (ap length ew ∙ regions-length a.state.now _ c.told-state l) c.decide-verdict.ensures c.if-verdict-eq-NO_REASON.true in
-    record { answer = all.0; next = all.1 }
-
 pub load_faults-requires : goal.load_faults-requires
 load_faults-requires c =
     rw c.shape-shape.ensures (place-lt _)
@@ -35,6 +26,16 @@ load_faults-requires c =
 pub store_faults-requires : goal.store_faults-requires
 store_faults-requires c =
     rw c.shape-shape.ensures (place-lt _)
+
+pub returns-in_default-reason : goal.returns-in_default-reason
+returns-in_default-reason c =
+    let a = c.args in
+    let es = c.shape-shape.ensures in
+    let l : c.shape-shape.result.place < guard_count = rw es (place-lt _) in
+    let ew = c.region_words.ensures ∙ regions-read a.state.now _ c.told-state l in
+    let all = memory-granted (state_of a.state.now) a.there a.guard.0 a.o a.width a.k es c.memory_checked-checked.ensures
+    c.in-Done.is ew (ap length ew ∙ regions-length a.state.now _ c.told-state l) c.decide-verdict.ensures c.in_default-reason.is in
+    record { answer = ap Done c.number.ensures ∙ all.0; next = all.1 }
 
 pub returns : goal.returns
 unfolding faulted
@@ -44,7 +45,7 @@ returns c =
     let l : c.shape-shape.result.place < guard_count = rw es (place-lt _) in
     let ew = c.region_words.ensures ∙ regions-read a.state.now _ c.told-state l in
     let all = memory-refused (state_of a.state.now) a.there a.guard.0 a.o a.width a.k es c.memory_checked-checked.ensures
-    c.in-Done.is ew (ap length ew ∙ regions-length a.state.now _ c.told-state l) c.decide-verdict.ensures c.if-verdict-eq-NO_REASON.false
+    c.in-Done.is ew (ap length ew ∙ regions-length a.state.now _ c.told-state l) c.decide-verdict.ensures c.in-Some.is
     (c.raise.ensures
     ∙ ap (flagged _) (c.store_faults.ensures ∙ rw (c.recorded-faults.ensures, c.hears-heard.ensures, c.load_faults.ensures))) in
-    record { answer = all.0; next = all.1 }
+    record { answer = ap Refused c.number-2.ensures ∙ all.0; next = all.1 }

@@ -1,27 +1,30 @@
--- `regions::masks::next_covering` meets its contract: those passed by so far do not cover.
-use mathlib.Core.Path.{sym, ◌∙◌}
-use native.Mathlib.Omega.{arith}
-use Rattle.regions.proofs.Gathered.{pass-more, pass-none}
+-- `regions::masks::next_covering` meets its contract: those passed by do not cover.
+use borrow.Author.Rules.{rules}
+use borrow.Author.Tests.{tests}
+use mathlib.Core.Bool.{true, false}
+use mathlib.Core.List.{List}
+use mathlib.Core.Path.{◌≡◌}
+use Prim.Native.Nat.{ℕ, ◌≤◌, ◌<◌}
+use Rattle.std.specs.Prelude.{Option, Some, None, MatchOption}
+use Rattle.std.proofs.lemmas.Iterator.{first_from_Range, serves_from_Range}
+use Rattle.regions.specs.Masks.{Passed, Next}
+use Rattle.regions.specs.Rules.{covers}
+use Rattle.regions.specs.Words.{base}
 use Rattle.regions.proofs.masks.next_covering.Goals as goal
 
-pub loop-x-init : goal.loop-x-init
-loop-x-init c = let a = c.args in (omega arith, c.requires.0, pass-none a.w.now a.o a.from)
+pub find-requires : goal.find-requires
+find-requires c =
+    record { can = tt; finite = tt; callable = serves_from_Range (λ x q k. search (rules, tests)) (λ x low high. search (rules, c.requires)) }
 
-pub loop-x-preserved : goal.loop-x-preserved
-loop-x-preserved c =
-    let a = c.args in
-    let l = c.loop-x in (
-      omega (arith, l.invariant.0),
-      omega (arith, c.loop-x-test.true),
-      pass-more a.w.now a.o a.from l.x l.invariant.2 c.covers.ensures c.if-covers.false,
-    )
-
-pub returns-then-covers : goal.returns-then-covers
-returns-then-covers c =
-    let l = c.loop-x in
-    record { low = l.invariant.0; high = l.invariant.1; passed = l.invariant.2; found = λ h. sym c.covers.ensures ∙ c.if-covers.true }
+as_next : (w : List ℕ) (o n : ℕ) (r : Option ℕ)
+    → MatchOption r (Passed w o 0 n) (λ i. (0 ≤ i) × (i < n) × (covers w (base i) o ≡ true) × Passed w o 0 i)
+    → MatchOption r (Passed w o 0 n) (Next w o n)
+as_next w o n None h = h
+as_next w o n (Some i) h = record { high = h.1; passed = h.3; found = h.2 }
 
 pub returns : goal.returns
 returns c =
-    let l = c.loop-x in
-    record { low = l.invariant.0; high = l.invariant.1; passed = l.invariant.2; found = λ h. absurd (omega (arith, c.loop-x-test.false)) }
+    let a = c.args in
+    as_next a.w.now a.o a.n c.find.result
+    (first_from_Range _ _ _ _ (λ i. covers a.w.now (base i) a.o ≡ true) (λ i. covers a.w.now (base i) a.o ≡ false) c.find.ensures.ran
+    (λ x q k. search (rules, tests)) (λ x q k. (search rules, search (rules, tests))))

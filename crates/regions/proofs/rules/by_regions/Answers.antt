@@ -1,4 +1,3 @@
-use borrow.Author.Rules.{rules}
 use mathlib.Core.List.{List}
 use mathlib.Core.Path.{◌≡◌, ap, ap₂, ◌∙◌}
 use Prim.Native.Nat.{ℕ, ◌-◌}
@@ -6,11 +5,10 @@ use native.Mathlib.Omega.{arith}
 use lib.ListN.{length, take}
 use lib.Seq.{take_all}
 use Rattle.access.specs.declared.kind.Kind.{Kind}
-use Rattle.regions.specs.Admits.{by_asked, packed, verdict_of}
+use Rattle.regions.specs.Admits.{by_asked, verdict_of}
 use Rattle.regions.specs.Masks.{masks, serving}
 use Rattle.regions.specs.declared.admits.Admits.{Admits}
 use Rattle.regions.specs.declared.masks.Served.{Served}
-use Rattle.regions.proofs.Askings.{asked-most}
 use Rattle.regions.proofs.rules.by_regions.Goals as goal
 
 -- the part is the whole
@@ -23,31 +21,16 @@ gathered-m-requires c = rw (whole c.args.w.now) (c.requires.0, c.requires.1, c.r
 pub by_asked-requires : goal.by_asked-requires
 by_asked-requires c = omega (arith, c.requires.4)
 
-pub judged-v-requires : goal.judged-v-requires
-judged-v-requires c = c.requires.3
-
-pub overflow_mul-result : goal.overflow_mul-result
-overflow_mul-result c =
-    let a = c.args in
-    let k : Kind = record { cid = a.cid; write = a.write; privileged = a.privileged; secure = a.secure } in
-    let e = asked-most _ _ k (c.judged-v.ensures ∙ ap (λ (x : Admits). verdict_of x k) c.by_asked.ensures) in
-    search (rules, e.1)
-
-pub overflow_add-result : goal.overflow_add-result
-overflow_add-result c =
-    let a = c.args in
-    let k : Kind = record { cid = a.cid; write = a.write; privileged = a.privileged; secure = a.secure } in
-    let e = asked-most _ _ k (c.judged-v.ensures ∙ ap (λ (x : Admits). verdict_of x k) c.by_asked.ensures) in
-    search (rules, e.0, e.1)
+pub judged-requires : goal.judged-requires
+judged-requires c = c.requires.3
 
 pub returns : goal.returns
 returns c =
     let a = c.args in
     let k : Kind = record { cid = a.cid; write = a.write; privileged = a.privileged; secure = a.secure } in
-    ap packed
-    (c.judged-v.ensures
+    c.judged.ensures
     ∙ ap (λ (x : Admits). verdict_of x k)
     (c.by_asked.ensures
     ∙ ap (by_asked a.den)
     (c.gathered-m.ensures
-    ∙ ap₂ (λ (by : Served) (w : List ℕ). masks a.privileged (serving by) w a.n a.o) c.served_by.ensures (whole a.w.now))))
+    ∙ ap₂ (λ (by : Served) (w : List ℕ). masks a.privileged (serving by) w a.n a.o) c.served_by.ensures (whole a.w.now)))

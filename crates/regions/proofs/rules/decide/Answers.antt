@@ -1,12 +1,11 @@
 use mathlib.Core.Path.{ap, sym, ◌∙◌}
-use Prim.Native.Nat.{ℕ, ◌/◌, ◌%◌}
 use borrow.Author.Tests.{lt-leb, le-leb}
 use Rattle.access.proofs.Heard.{heard-cid}
 use Rattle.access.specs.declared.kind.Kind.{Kind}
 use Rattle.regions.specs.Admits.{governed}
 use Rattle.regions.specs.Lent.{decided_in}
 use Rattle.regions.specs.Rules.{reason_of, tests0}
-use Rattle.regions.proofs.Askings.{zero_default, packed-decided}
+use Rattle.regions.proofs.Askings.{governed-default, governed_some}
 use Rattle.regions.proofs.Enough.{decided-enough}
 use Rattle.regions.proofs.rules.decide.Goals as goal
 
@@ -23,28 +22,27 @@ unfolding decided_in
 returns-then-k c =
     simp (le-leb _ _ c.if-n-gt-MOST_REGIONS.false, le-leb _ _ c.if-w-n.false, lt-leb _ _ c.if-k.true)
 
-pub governed-v-requires : goal.governed-v-requires
-governed-v-requires c =
+pub governed-requires : goal.governed-requires
+governed-requires c =
     let a = c.args in
     (c.if-n-gt-MOST_REGIONS.false, c.if-w-n.false, rw c.hears-heard.ensures (heard-cid a.bus a.k c.if-k.false))
 
-pub default_reason-reason-requires : goal.default_reason-reason-requires
-default_reason-reason-requires c =
+pub default_reason-requires : goal.default_reason-requires
+default_reason-requires c =
     let a = c.args in
     rw c.hears-heard.ensures (heard-cid a.bus a.k c.if-k.false)
 
-pub returns-then-v-eq0 : goal.returns-then-v-eq0
-returns-then-v-eq0 c =
+pub returns-in-Some : goal.returns-in-Some
+returns-in-Some c =
     let a = c.args in
-    zero_default a.bus a.w.now a.n a.o a.k
-    (ap (governed a.w.now a.n a.o) (sym c.hears-heard.ensures) ∙ sym c.governed-v.ensures ∙ c.if-v-eq0.true)
-    (c.default_reason-reason.ensures ∙ ap (λ (k : Kind). reason_of (tests0 a.bus k)) c.hears-heard.ensures)
+    governed_some a.bus a.w.now a.n a.o a.k
+    (ap (governed a.w.now a.n a.o) (sym c.hears-heard.ensures) ∙ sym c.governed.ensures ∙ c.in-Some.is)
     ∙ sym (decided-enough a.bus a.w.now a.n a.o c.if-n-gt-MOST_REGIONS.false c.if-w-n.false a.k c.if-k.false)
 
 pub returns : goal.returns
 returns c =
     let a = c.args in
-    let v = c.governed-v.ensures ∙ ap (governed a.w.now a.n a.o) c.hears-heard.ensures in
-    ap (λ (v : ℕ). record { rule = v % 4; reason = v / 4 }) v
-    ∙ packed-decided a.bus a.w.now a.n a.o a.k (λ z. c.if-v-eq0.false (v ∙ z))
+    governed-default a.bus a.w.now a.n a.o a.k
+    (ap (governed a.w.now a.n a.o) (sym c.hears-heard.ensures) ∙ sym c.governed.ensures ∙ c.in_default.is)
+    (c.default_reason.ensures ∙ ap (λ (k : Kind). reason_of (tests0 a.bus k)) c.hears-heard.ensures)
     ∙ sym (decided-enough a.bus a.w.now a.n a.o c.if-n-gt-MOST_REGIONS.false c.if-w-n.false a.k c.if-k.false)

@@ -1,6 +1,7 @@
 use mathlib.Core.Bool.{true, false}
-use mathlib.Core.Path.{◌∙◌}
+use mathlib.Core.Path.{ap, ◌∙◌}
 use native.Mathlib.Omega.{arith}
+use Rattle.std.specs.Prelude.{Some}
 use Rattle.regions.proofs.AdmitsTests.{none-covered}
 use Rattle.regions.proofs.Askings.{found_as, governed-none}
 use Rattle.regions.proofs.Enabled.{told_none, unenabled-uncovered}
@@ -12,35 +13,29 @@ returns-then-none_enabled c =
     let e = told_none a.w.now c.none_enabled.ensures c.if-none_enabled.true in
     governed-none a.w.now a.n a.o a.k c.requires.2 (unenabled-uncovered a.w.now a.n a.o c.requires.0 e)
 
-pub returns-then-first-n : goal.returns-then-first-n
-returns-then-first-n c =
+pub returns-in_err-first : goal.returns-in_err-first
+returns-in_err-first c =
     let a = c.args in
-    let x = c.next_covering-first in
-    governed-none a.w.now a.n a.o a.k c.requires.2
-    (none-covered a.w.now a.o a.n (λ y u v. x.ensures.passed y u (omega (arith, c.if-first-n.true, v))))
+    c.from_residual.ensures ∙ governed-none a.w.now a.n a.o a.k c.requires.2 (none-covered a.w.now a.o a.n c.in_err-first.ensures)
 
 pub by_regions-requires : goal.by_regions-requires
 by_regions-requires c =
     let p = c.requires in
-    let x = c.next_covering-first.ensures in
-    (x.high, p.1, x.passed, p.2, omega arith)
+    let x = c.in_ok-first.ensures in
+    (omega (arith, x.high), p.1, x.passed, p.2, omega arith)
 
 pub returns-then-k : goal.returns-then-k
 returns-then-k c =
     let a = c.args in
-    c.by_regions.ensures
-    ∙ found_as a.w.now a.n a.o a.k c.requires.2 true c.if-k.true c.next_covering-first.ensures
-    c.if-first-n.false
+    ap Some c.by_regions.ensures ∙ found_as a.w.now a.n a.o a.k c.requires.2 true c.if-k.true c.in_ok-first.ensures
 
 pub by_regions-requires-2 : goal.by_regions-requires-2
 by_regions-requires-2 c =
     let p = c.requires in
-    let x = c.next_covering-first.ensures in
-    (x.high, p.1, x.passed, p.2, omega arith)
+    let x = c.in_ok-first.ensures in
+    (omega (arith, x.high), p.1, x.passed, p.2, omega arith)
 
 pub returns : goal.returns
 returns c =
     let a = c.args in
-    c.by_regions-2.ensures
-    ∙ found_as a.w.now a.n a.o a.k c.requires.2 false c.if-k.false c.next_covering-first.ensures
-    c.if-first-n.false
+    ap Some c.by_regions-2.ensures ∙ found_as a.w.now a.n a.o a.k c.requires.2 false c.if-k.false c.in_ok-first.ensures
