@@ -16,7 +16,7 @@ use Rattle.risaf.specs.Port.{word_in}
 use Rattle.risaf.specs.declared.guards.Shape.{Shape}
 use Rattle.risaf.specs.declared.port.Port.{Port}
 use Rattle.risaf.specs.declared.rows.Form.TheVariants.{GranuleStart, GranuleEnd}
-use Rattle.risaf.proofs.Shapes.{every, passed, by-guard}
+use Rattle.risaf.proofs.Shapes.{every, passed, by-row}
 
 -- ---- a granule of 2 ^ k bytes: v with other bits within it
 
@@ -84,9 +84,9 @@ by-power P (suc n) g e each = go (eqb g (2 ^ n)) refl e (λ f. by-power P n g f 
 -- what holds of every power of 2 holds of a guard's granule
 by-granule : (P : ℕ → Type 0) → ((k : ℕ) → k ≤ 32 → P (2 ^ k)) → (n : ℕ) → is_guard n ≡ true → P (shape_of n).granule
 unfolding powered
-by-granule P each n =
-    by-guard (λ (s : Shape). s.there ≡ true → P s.granule) n (λ e. absurd (true≢false (sym e)))
-    (λ i h q e. by-power P 33 _ (passed powered guards all-powered i h) (λ k l. each k (omega arith)))
+by-granule P each n h =
+    by-row (λ (s : Shape). P s.granule) n h
+    (λ i l q. by-power P 33 _ (passed powered guards all-powered i l) (λ k m. each k (omega arith)))
 
 -- ---- what a write leaves
 

@@ -1,5 +1,7 @@
 -- The answer to a memory access, as the code makes it.
-use mathlib.Core.Bool.{Bool, true, false, ◌&&◌, ◌||◌, and-false, or-false, cond}
+use Rattle.std.specs.Prelude.{Option, Some, None, Result, Ok, Err, is_ok}
+use Rattle.std.specs.Result.{result_ok}
+use mathlib.Core.Bool.{Bool, true, false, ◌&&◌, and-false, cond, true≢false}
 use mathlib.Core.List.{List}
 use mathlib.Core.Path.{◌≡◌, refl, sym, ap, ◌∙◌}
 use Prim.Native.Nat.{ℕ, ◌%◌, ◌≤◌, ◌<◌}
@@ -7,69 +9,23 @@ use native.Mathlib.Decide.{dec_lt}
 use native.Mathlib.Omega.{arith}
 use lib.Dec.{eqb, ltb}
 use lib.ListN.{length}
-use borrow.Author.Tests.{eq-eqb, ne_eqb, lt-leb, eqb-true}
-use Rattle.access.specs.Answer.{number_of}
-use Rattle.access.specs.Checks.{unless, answered_with, reached_with}
+use borrow.Author.Tests.{lt-leb}
+use Rattle.access.specs.Checks.{unless, answered, answered_with, reached_with}
 use Rattle.access.specs.declared.answer.Answer.{Answer}
 use Rattle.access.specs.declared.answer.Answer.TheVariants.{Done, Refused, Rejected}
+use Rattle.access.specs.declared.answer.Why.{Why}
 use Rattle.access.specs.declared.answer.Why.TheVariants.{NoSuch, Misaligned, Outside}
 use Rattle.access.specs.Kind.{debugger, is_cid}
 use Rattle.access.specs.declared.bus.Bus.{Bus}
 use Rattle.access.specs.declared.kind.Kind.{Kind}
 use Rattle.regions.specs.Lent.{decided_in}
-use Rattle.risaf.specs.Memory.{is_width, memory_checks, memory_answer, memory_checked}
+use Rattle.risaf.specs.Memory.{is_width, memory_checks, memory_answer, memory_checked, unrejected}
 use Rattle.regions.specs.Rules.{decided, granted}
 use Rattle.regions.specs.Words.{base, most_regions}
 use Rattle.risaf.specs.declared.guards.Shape.{Shape}
 use Rattle.regions.specs.Verdict.{rule_number, refused_number}
 use Rattle.regions.specs.declared.verdict.Verdict.{Verdict}
 use Rattle.regions.proofs.Enough.{decided-enough}
-
--- ---- the tests
-
--- of four bytes or more there is one width
-pub wide-width : (width : ℕ) → 4 ≤ width → is_width width ≡ eqb width 4
-wide-width width h = rw (ne_eqb width 1 (λ e. omega (arith, h, e)), ne_eqb width 2 (λ e. omega (arith, h, e))) refl
-
-pub other_width : (o width : ℕ) → (width ≡ 2 → ⊥) → (width ≡ 4 → ⊥) → is_width width ≡ true → true ≡ eqb (o % width) 0
-other_width o width two four h =
-    let one : width ≡ 1 = eqb-true width 1 (or_no (or_no h (ne_eqb width 4 four)) (ne_eqb width 2 two)) in
-    rw one (sym (eq-eqb (o % 1) 0 (omega arith)))
-  where
-    or_no : {a b : Bool} → (a || b) ≡ true → b ≡ false → a ≡ true
-    or_no {a} {b} p q = sym (or-false a) ∙ sym (ap (λ (x : Bool). a || x) q) ∙ p
-
--- what is answered by the tests in their order: up to which each is passed
-module _ (there : Bool) (shape : Shape) (o width : ℕ) (k : Kind) where
-  abbrev checked : Answer
-  checked = memory_checked there shape o width k
-
-  pub no-guard : there ≡ false → Rejected NoSuch ≡ checked
-  unfolding memory_checked memory_checks answered_with
-  no-guard e = rw e refl
-
-  module _ (et : there ≡ true) where
-    pub no-cid : is_cid k.cid ≡ false → Rejected NoSuch ≡ checked
-    unfolding memory_checked memory_checks answered_with
-    no-cid e = rw (et, e) refl
-
-    module _ (ec : is_cid k.cid ≡ true) where
-      pub no-width : is_width width ≡ false → Rejected NoSuch ≡ checked
-      unfolding memory_checked memory_checks answered_with
-      no-width e = rw (et, ec, e) refl
-
-      module _ (ew : is_width width ≡ true) where
-        pub misaligned : eqb (o % width) 0 ≡ false → Rejected Misaligned ≡ checked
-        unfolding memory_checked memory_checks answered_with
-        misaligned e = rw (et, ec, ew, e) refl
-
-        pub placed-is : eqb (o % width) 0 ≡ true → {r : Answer} → r ≡ cond (ltb o shape.window) (Done 0) (Rejected Outside) → r ≡ checked
-        unfolding memory_checked memory_checks answered_with reached_with
-        placed-is ea e = e ∙ rw (et, ec, ew, ea) (go (ltb o shape.window))
-          where
-            go : (i : Bool) → cond i (Done 0) (Rejected Outside) ≡ unless i (Rejected Outside) (Done 0)
-            go true = refl
-            go false = refl
 
 -- ---- what is answered before the rules are asked, and then
 
@@ -78,24 +34,37 @@ abbrev pub ruled : Verdict → Answer
 ruled v = unless (granted v) (Refused (refused_number v.reason)) (Done (rule_number v.rule))
 
 -- the rules are asked only where nothing rejects the access
-abbrev pub onward : Answer → Answer → Answer
-onward (Done x) next = next
-onward (Refused x) next = Refused x
-onward (Rejected why) next = Rejected why
+abbrev pub onward : Result Shape Why → Answer → Answer
+onward (Ok shape) next = next
+onward (Err why) next = Rejected why
 
-module _ (there : Bool) (shape : Shape) (o width : ℕ) (k : Kind) where
-  pub answer-onward : (v : Verdict) → memory_answer there shape o width k v ≡ onward (memory_checked there shape o width k) (ruled v)
+module _ (o width : ℕ) (k : Kind) where
+  pub answer-onward : (there : Bool) (shape : Shape) (v : Verdict)
+      → memory_answer there shape o width k v ≡ onward (memory_checked (cond there (Some shape) None) o width k) (ruled v)
   unfolding memory_answer memory_checked memory_checks answered_with reached_with
-  answer-onward v = go (there && is_cid k.cid && is_width width) (eqb (o % width) 0) (ltb o shape.window)
+  answer-onward false shape v = refl
+  answer-onward true shape v = go (is_cid k.cid && is_width width) (eqb (o % width) 0) (ltb o shape.window)
     where
       go : (p a i : Bool)
           → unless p (Rejected NoSuch) (unless a (Rejected Misaligned) (unless i (Rejected Outside) (ruled v)))
-          ≡ onward (unless p (Rejected NoSuch) (unless a (Rejected Misaligned) (unless i (Rejected Outside) (Done 0)))) (ruled v)
+          ≡ onward (unrejected (unless p (Rejected NoSuch) (unless a (Rejected Misaligned) (unless i (Rejected Outside) (Done 0)))) shape) (ruled v)
       go true true true = refl
       go true true false = refl
       go true false i = refl
       go false a i = refl
 
+  -- the shape given is the one asked for
+  pub checked-own : (guard : Option Shape) {shape : Shape} → memory_checked guard o width k ≡ Ok shape → guard ≡ Some shape
+  unfolding memory_checked
+  checked-own None e = absurd (true≢false (sym (ap is_ok e)))
+  checked-own (Some s) {shape} e = go (answered (memory_checks true s o width k true) 0) e
+    where
+      go : (a : Answer) → unrejected a s ≡ Ok shape → Some s ≡ Some shape
+      go (Done v) e = ap result_ok e
+      go (Refused v) e = ap result_ok e
+      go (Rejected why) e = absurd (true≢false (sym (ap is_ok e)))
+
+module _ (there : Bool) (shape : Shape) (o width : ℕ) (k : Kind) where
   -- what holds of the three rejections, and of what the verdict answers, holds of the answer
   pub answer-by : (P : Answer → Type 0) (v : Verdict) → P (Rejected NoSuch) → P (Rejected Misaligned) → P (Rejected Outside) → P (ruled v)
       → P (memory_answer there shape o width k v)
@@ -107,17 +76,6 @@ module _ (there : Bool) (shape : Shape) (o width : ℕ) (k : Kind) where
       go true true false = six
       go true false i = five
       go false a i = four
-
-  pub checked-unrefused : {x : ℕ} → memory_checked there shape o width k ≡ Refused x → ⊥
-  unfolding memory_checked memory_checks answered_with reached_with
-  checked-unrefused {x} = go (there && is_cid k.cid && is_width width) (eqb (o % width) 0) (ltb o shape.window)
-    where
-      go : (p a i : Bool)
-          → unless p (Rejected NoSuch) (unless a (Rejected Misaligned) (unless i (Rejected Outside) (Done 0))) ≡ Refused x → ⊥
-      go true true true e = omega (arith, ap number_of e)
-      go true true false e = omega (arith, ap number_of e)
-      go true false i e = omega (arith, ap number_of e)
-      go false a i e = omega (arith, ap number_of e)
 
 -- ---- where the code's verdict is not the rules', the answer does not look at it
 

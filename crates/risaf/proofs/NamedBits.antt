@@ -1,4 +1,5 @@
 -- A register access to a guard changes and reads named bits alone: g is a guard, G has a mask for each of its words.
+use Rattle.std.specs.Prelude.{Option, Some, None, IfSome, option_map}
 use mathlib.Core.Bool.{Bool, true, false, cond}
 use mathlib.Core.Path.{◌≡◌, refl, ap, subst}
 use Prim.Native.Nat.{ℕ, ◌+◌, ◌<◌}
@@ -18,8 +19,8 @@ use Rattle.access.specs.declared.request.Request.{Request}
 use Rattle.regions.specs.Words.{sec_bit, base, sub, nest_at}
 use Rattle.risaf.specs.Contents.{iasr_at, head_words, guard_words, guard_from, with_word}
 use Rattle.risaf.specs.Registers.{register_at}
-use Rattle.risaf.specs.Rows.{PlacedIn, of_head, of_base, of_sub, row_of}
-use Rattle.risaf.specs.Port.{port_in, read_of, delegated, allowed_of, locked_of, word_written, checks_of, answer_of, with_port_word, refused_port, accessed, stepped}
+use Rattle.risaf.specs.Rows.{PlacedIn, of_head, of_base, of_sub, row_of, row_at}
+use Rattle.risaf.specs.Port.{port_in, read_of, delegated, allowed_of, locked_of, word_written, checks_of, answer_of, with_port_word, refused_port, accessed, stepped, stepped_at}
 use Rattle.risaf.specs.declared.contents.Guard.{Guard}
 use Rattle.risaf.specs.declared.guards.Shape.{Shape}
 use Rattle.risaf.specs.declared.port.Port.{Port}
@@ -27,7 +28,7 @@ use Rattle.risaf.specs.declared.registers.Head.TheVariants.{Cr, Iasr, Iacr, Iaes
 use Rattle.risaf.specs.declared.registers.BaseField.TheVariants.{Cfgr, Start, End, Cidcfgr}
 use Rattle.risaf.specs.declared.registers.SubField.TheVariants.{SubCfgr, SubStart, SubEnd, Nest}
 use Rattle.risaf.specs.declared.registers.Register.{Register}
-use Rattle.risaf.specs.declared.registers.Register.TheVariants.{OfHead, OfBase, OfSub, Unknown}
+use Rattle.risaf.specs.declared.registers.Register.TheVariants.{OfHead, OfBase, OfSub}
 use Rattle.risaf.proofs.RegisterMap.{register-own}
 use Rattle.risaf.proofs.NamedWords.{Alike, Has, words-alike, word-alike, row-whole, word_kept, word_same}
 
@@ -63,19 +64,23 @@ module _ {n : ℕ} {G g : Guard} (has : Has n G) (own : Alike Kept G g g) where
   unfolding row_of of_head
   refused-kept = stored-kept iasr_at _ (kept_set G.iasr g.iasr 0 (has (OfHead Iasr) tt 0 (lit< tt) refl))
 
-pub stepped_kept : (shape : Shape) {G g : Guard} → Has shape.regions G → Alike Kept G g g → (q : Request)
-    → Alike Kept G (stepped shape g q).next g
-unfolding stepped accessed port_in
-stepped_kept shape {G} {g} has own q = go (answer_of shape (row_of reg) (port_in (guard_words g) (row_of reg)) q) q.write
-  where
-    reg : Register
-    reg = register_at shape.regions q.offset
+module _ (granule : ℕ) {n : ℕ} {G g : Guard} (has : Has n G) (own : Alike Kept G g g) (reg : Register) (placed : PlacedIn n reg) (q : Request) where
+  leaves-kept : (a : Answer) (w : Bool) → Alike Kept G (leaves granule a w g reg q) g
+  unfolding port_in
+  leaves-kept (Done v) true = written-kept has own granule reg placed q.value q.secure
+  leaves-kept (Done v) false = own
+  leaves-kept (Refused v) w = refused-kept has own
+  leaves-kept (Rejected why) w = own
 
-    go : (a : Answer) (w : Bool) → Alike Kept G (leaves shape.granule a w g reg q) g
-    go (Done v) true = written-kept has own shape.granule reg (register-own shape.regions q.offset) q.value q.secure
-    go (Done v) false = own
-    go (Refused v) w = refused-kept has own
-    go (Rejected why) w = own
+pub stepped_kept : (there : Bool) (shape : Shape) {G g : Guard} → Has shape.regions G → Alike Kept G g g → (q : Request)
+    → Alike Kept G (stepped there shape g q).next g
+unfolding stepped stepped_at row_at accessed port_in
+stepped_kept there shape {G} {g} has own q = by (register_at shape.regions q.offset) (register-own shape.regions q.offset)
+  where
+    by : (r : Option Register) → IfSome r (PlacedIn shape.regions) → Alike Kept G (stepped_at there shape (option_map row_of r) g q).next g
+    by None placed = own
+    by (Some reg) placed =
+        leaves-kept shape.granule has own reg placed q (answer_of there shape.bus (row_of reg) (port_in (guard_words g) (row_of reg)) q) q.write
 
 -- ---- it is answered by named bits alone, and leaves them alike where they were
 
@@ -138,7 +143,6 @@ module _ {n : ℕ} {G g g' : Guard} (has : Has n G) (same : Alike Same G g g') w
   allowed_same bus (OfSub x s SubStart) (h, l) q = rw (dcen-same x s h l, dccid-same x s h l, sec-same x s h l)
   allowed_same bus (OfSub x s SubEnd) (h, l) q = rw (dcen-same x s h l, dccid-same x s h l, sec-same x s h l)
   allowed_same bus (OfSub x s Nest) placed q = refl
-  allowed_same bus Unknown placed q = refl
 
   locked-same : (reg : Register) → PlacedIn n reg → locked_of (row_of reg).lock (port reg) ≡ locked_of (row_of reg).lock (port' reg)
   unfolding row_of of_head of_base of_sub port_in
@@ -155,16 +159,15 @@ module _ {n : ℕ} {G g g' : Guard} (has : Has n G) (same : Alike Same G g g') w
   locked-same (OfSub x s SubStart) (h, l) = rlock-same x s h l
   locked-same (OfSub x s SubEnd) (h, l) = rlock-same x s h l
   locked-same (OfSub x s Nest) placed = glock-same
-  locked-same Unknown placed = glock-same
 
   read_same : (reg : Register) → PlacedIn n reg → read_of (row_of reg) (port reg).word ≡ read_of (row_of reg) (port' reg).word
   unfolding read_of port_in
   read_same reg placed = same-masked (row_of reg).named _ _ _ (has reg placed) (stored_same (row_of reg).place)
 
-  answer-same : (shape : Shape) (reg : Register) → PlacedIn n reg → (q : Request)
-      → answer_of shape (row_of reg) (port reg) q ≡ answer_of shape (row_of reg) (port' reg) q
+  answer-same : (there : Bool) (bus : Bus) (reg : Register) → PlacedIn n reg → (q : Request)
+      → answer_of there bus (row_of reg) (port reg) q ≡ answer_of there bus (row_of reg) (port' reg) q
   unfolding answer_of checks_of
-  answer-same shape reg placed q = rw (allowed_same shape.bus reg placed q, locked-same reg placed, read_same reg placed)
+  answer-same there bus reg placed q = rw (allowed_same bus reg placed q, locked-same reg placed, read_same reg placed)
 
   -- where it is done
   written_same : (granule : ℕ) (reg : Register) → PlacedIn n reg → (value : ℕ) (secure : Bool)
@@ -180,21 +183,24 @@ module _ {n : ℕ} {G g g' : Guard} (has : Has n G) (same : Alike Same G g g') w
   refused-same : Alike Same G (with_word g iasr_at (with_bit 32 g.iasr 0 true)) (with_word g' iasr_at (with_bit 32 g'.iasr 0 true))
   refused-same = word-alike iasr_at (same_refl 0 0) same (same_set G.iasr g.iasr g'.iasr 0 same.iasr)
 
-pub stepped_same : (shape : Shape) {G g g' : Guard} → Has shape.regions G → Alike Same G g g' → (q : Request)
-    → ((stepped shape g q).answer ≡ (stepped shape g' q).answer) × Alike Same G (stepped shape g q).next (stepped shape g' q).next
-unfolding stepped accessed port_in
-stepped_same shape {G} {g} {g'} has same q =
-    let e = answer-same has same shape reg own q in
-    (e, rw e (go (answer_of shape (row_of reg) (port_in (guard_words g') (row_of reg)) q) q.write))
+  leaves-same : (granule : ℕ) (reg : Register) → PlacedIn n reg → (q : Request) (a : Answer) (w : Bool)
+      → Alike Same G (leaves granule a w g reg q) (leaves granule a w g' reg q)
+  unfolding port_in
+  leaves-same granule reg placed q (Done v) true = written_same granule reg placed q.value q.secure
+  leaves-same granule reg placed q (Done v) false = same
+  leaves-same granule reg placed q (Refused v) w = refused-same
+  leaves-same granule reg placed q (Rejected why) w = same
+
+pub stepped_same : (there : Bool) (shape : Shape) {G g g' : Guard} → Has shape.regions G → Alike Same G g g' → (q : Request)
+    → ((stepped there shape g q).answer ≡ (stepped there shape g' q).answer)
+    × Alike Same G (stepped there shape g q).next (stepped there shape g' q).next
+unfolding stepped stepped_at row_at accessed port_in
+stepped_same there shape {G} {g} {g'} has same q = by (register_at shape.regions q.offset) (register-own shape.regions q.offset)
   where
-    reg : Register
-    reg = register_at shape.regions q.offset
-
-    own : PlacedIn shape.regions reg
-    own = register-own shape.regions q.offset
-
-    go : (a : Answer) (w : Bool) → Alike Same G (leaves shape.granule a w g reg q) (leaves shape.granule a w g' reg q)
-    go (Done v) true = written_same has same shape.granule reg own q.value q.secure
-    go (Done v) false = same
-    go (Refused v) w = refused-same has same
-    go (Rejected why) w = same
+    by : (r : Option Register) → IfSome r (PlacedIn shape.regions)
+        → ((stepped_at there shape (option_map row_of r) g q).answer ≡ (stepped_at there shape (option_map row_of r) g' q).answer)
+        × Alike Same G (stepped_at there shape (option_map row_of r) g q).next (stepped_at there shape (option_map row_of r) g' q).next
+    by None placed = (refl, same)
+    by (Some reg) placed =
+        let e = answer-same has same there shape.bus reg placed q in
+        (e, rw e (leaves-same has same shape.granule reg placed q (answer_of there shape.bus (row_of reg) (port_in (guard_words g') (row_of reg)) q) q.write))

@@ -20,7 +20,7 @@ use Rattle.risaf.specs.declared.registers.Head.TheVariants.{Cr, Iasr, Iacr, Iaes
 use Rattle.risaf.specs.declared.registers.BaseField.TheVariants.{Cfgr, Start, End, Cidcfgr}
 use Rattle.risaf.specs.declared.registers.SubField.TheVariants.{SubCfgr, SubStart, SubEnd, Nest}
 use Rattle.risaf.specs.declared.registers.Register.{Register}
-use Rattle.risaf.specs.declared.registers.Register.TheVariants.{OfHead, OfBase, OfSub, Unknown}
+use Rattle.risaf.specs.declared.registers.Register.TheVariants.{OfHead, OfBase, OfSub}
 
 -- ---- guards compared word by word
 
@@ -82,7 +82,6 @@ row-whole (OfSub x s SubCfgr) = tt
 row-whole (OfSub x s SubStart) = bit-ones 32
 row-whole (OfSub x s SubEnd) = bit-ones 32
 row-whole (OfSub x s Nest) = tt
-row-whole Unknown = tt
 
 -- then there is nothing to keep
 pub whole-kept : (named mask x y : ℕ) → Whole named → Within named mask → Kept mask x y

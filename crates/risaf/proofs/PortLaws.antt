@@ -1,24 +1,23 @@
 -- The words that a write leaves, as the code makes them, and the answer to a read.
+use Rattle.std.specs.Prelude.{Option, Some, None}
 use mathlib.Core.Bool.{Bool, true, false, not, ◌&&◌, ◌||◌, cond, and-true, and-false}
-use mathlib.Core.List.{List}
 use mathlib.Core.Path.{◌≡◌, refl, sym, ap, ◌∙◌}
 use Prim.Native.Nat.{ℕ, ◌^◌, ◌%◌, ◌<◌}
-use borrow.Author.Tests.{eq-eqb}
 use lib.Dec.{eqb}
-use lib.ListN.{get_or}
 use Rattle.words.specs.Bit.{bit, word, merged, with_bit}
 use Rattle.words.proofs.Laws.{bit_word, bit-with_bit, with_bit-lt, word-ext}
 use Rattle.words.proofs.Masks.{merged_by}
 use Rattle.regions.specs.Words.{sec_bit}
-use Rattle.access.specs.Checks.{answered_with, reached_with}
-use Rattle.access.specs.declared.answer.Answer.{Answer}
+use Rattle.access.specs.Checks.{unless, answered_with, reached_with}
+use Rattle.access.specs.declared.answer.Answer.TheVariants.{Rejected}
+use Rattle.access.specs.declared.answer.Why.TheVariants.{Misaligned}
 use Rattle.access.specs.declared.request.Request.{Request}
-use Rattle.risaf.specs.Port.{allowed_of, answer_of, bit_if, checks_of, port_in, read_answer, read_reached, subcfgr_written}
-use Rattle.risaf.specs.Registers.{register_at}
-use Rattle.risaf.specs.Rows.{row_of}
+use Rattle.risaf.specs.Port.{allowed_of, answer_of, bit_if, checks_of, checks_none, port_in, read_answer, read_at, read_reached, subcfgr_written, accessed, stepped, stepped_at}
+use Rattle.risaf.specs.Contents.{guard_words}
+use Rattle.risaf.specs.declared.contents.Guard.{Guard}
+use Rattle.risaf.specs.Rows.{row_at}
 use Rattle.risaf.specs.declared.guards.Shape.{Shape}
 use Rattle.risaf.specs.declared.port.Port.{Port}
-use Rattle.risaf.specs.declared.registers.Register.{Register}
 use Rattle.risaf.specs.declared.rows.Row.{Row}
 
 -- ---- bits, one of them only where it may be
@@ -50,16 +49,12 @@ cfgr-is named p value secure = cfgr-by 32 named p.word value 1 sec_bit p.glock s
 
 -- ---- a read
 
--- of a register that an offset is, with its row
-pub reading : (shape : Shape) (w : List ℕ) (q : Request) {reg : Register} {row : Row} {a : Answer} → shape.there ≡ true → q.offset % 4 ≡ 0
-    → reg ≡ register_at shape.regions q.offset → row ≡ row_of reg → a ≡ read_reached row (get_or w row.place 0) q
-    → a ≡ read_answer shape w q
-unfolding read_answer
-reading shape w q h l eg er ea = rw (h, eq-eqb (q.offset % 4) 0 l) (rw (ea, er, eg) refl)
-
--- is what an access gives that is no write
-pub read_is : (shape : Shape) (w : List ℕ) (q : Request) → q.write ≡ false
-    → answer_of shape (row_of (register_at shape.regions q.offset)) (port_in w (row_of (register_at shape.regions q.offset))) q
-    ≡ read_answer shape w q
-unfolding answer_of checks_of allowed_of answered_with reached_with port_in read_answer read_reached
-read_is shape w q h = rw h refl
+-- it is what an access gives that is no write
+pub read_is : (shape : Shape) (g : Guard) (q : Request) → q.write ≡ false
+    → (stepped true shape g q).answer ≡ read_answer shape (guard_words g) q
+unfolding stepped stepped_at accessed answer_of checks_of checks_none allowed_of answered_with reached_with port_in read_answer read_at read_reached
+read_is shape g q h = go (row_at shape.regions q.offset)
+  where
+    go : (r : Option Row) → (stepped_at true shape r g q).answer ≡ unless (eqb (q.offset % 4) 0) (Rejected Misaligned) (read_at r (guard_words g) q)
+    go None = refl
+    go (Some row) = rw h refl

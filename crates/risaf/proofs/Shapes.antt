@@ -1,7 +1,8 @@
 -- What holds of each row of the table of guards holds of every guard's shape.
-use mathlib.Core.Bool.{Bool, true, false, ◌&&◌, cond}
+use Rattle.std.specs.Prelude.{Option, Some, None, is_some, unwrap_or}
+use mathlib.Core.Bool.{Bool, true, false, ◌&&◌, cond, true≢false}
 use mathlib.Core.List.{List, [], ◌∷◌}
-use mathlib.Core.Path.{◌≡◌, refl}
+use mathlib.Core.Path.{◌≡◌, refl, sym}
 use Prim.Native.Nat.{ℕ, zero, suc, ◌+◌, ◌^◌, ◌≤◌, ◌<◌}
 use native.Mathlib.Omega.{arith}
 use lib.Dec.{eqb, leb, lit≤, lit<}
@@ -9,7 +10,7 @@ use lib.ListN.{length, get_or}
 use borrow.Author.Tests.{leb-true, eqb-true}
 use Rattle.regions.specs.Words.{most_regions}
 use Rattle.access.specs.declared.bus.Bus.TheVariants.{Axi}
-use Rattle.risaf.specs.Guards.{GuardRow, guards, guard_count, shaped, no_shape, shape_in, shape_of}
+use Rattle.risaf.specs.Guards.{GuardRow, guards, guard_count, shaped, no_shape, shape_in, shape_at, shape_of, is_guard}
 use Rattle.risaf.specs.declared.guards.Shape.{Shape}
 
 -- a row past the table's end
@@ -21,29 +22,62 @@ row_at gs i = get_or gs i no_row
 
 -- ---- by the rows of a table
 
-module _ (P : Shape → Type 0) (n : ℕ) (none : P no_shape) where
+module _ (P : Option Shape → Type 0) (n : ℕ) (none : P None) where
   by_rows : (gs : List GuardRow) (place : ℕ)
-      → ((i : ℕ) → i < length gs → n ≡ (row_at gs i).number → P (shaped (place + i) (row_at gs i))) → P (shape_in gs place n)
+      → ((i : ℕ) → i < length gs → n ≡ (row_at gs i).number → P (Some (shaped (place + i) (row_at gs i)))) → P (shape_in gs place n)
   unfolding shape_in
   by_rows [] place each = none
   by_rows (g ∷ gs) place each = go (eqb n g.number) refl (by_rows gs (suc place) next)
     where
-      next : (i : ℕ) → i < length gs → n ≡ (row_at gs i).number → P (shaped (suc place + i) (row_at gs i))
+      next : (i : ℕ) → i < length gs → n ≡ (row_at gs i).number → P (Some (shaped (suc place + i) (row_at gs i)))
       next i h q =
           let s : suc place + i ≡ place + suc i = omega arith in
           rw s (each (suc i) (omega arith) q)
 
       go : (t : Bool) → eqb n g.number ≡ t → P (shape_in gs (suc place) n)
-          → P (cond t (shaped place g) (shape_in gs (suc place) n))
+          → P (cond t (Some (shaped place g)) (shape_in gs (suc place) n))
       go true e rest =
           let z : place ≡ place + 0 = omega arith in
           rw z (each 0 (omega arith) (eqb-true _ _ e))
       go false e rest = rest
 
-  -- of guard n
-  pub by-guard : ((i : ℕ) → i < guard_count → n ≡ (row_at guards i).number → P (shaped i (row_at guards i))) → P (shape_of n)
+  by_table : ((i : ℕ) → i < guard_count → n ≡ (row_at guards i).number → P (Some (shaped i (row_at guards i)))) → P (shape_at n)
+  unfolding shape_at
+  by_table each = by_rows guards 0 (λ i h q. let z : 0 + i ≡ i = omega arith in rw z (each i h q))
+
+module _ (P : Shape → Type 0) (n : ℕ) where
+  abbrev EachRow : Type 0
+  EachRow = (i : ℕ) → i < guard_count → n ≡ (row_at guards i).number → P (shaped i (row_at guards i))
+
+  -- of any number
+  pub by-guard : P no_shape → EachRow → P (shape_of n)
   unfolding shape_of
-  by-guard each = by_rows guards 0 (λ i h q. let z : 0 + i ≡ i = omega arith in rw z (each i h q))
+  by-guard none each = by_table (λ r. P (unwrap_or r no_shape)) n none each
+
+  -- of a guard's
+  pub by-row : is_guard n ≡ true → EachRow → P (shape_of n)
+  unfolding shape_of
+  by-row there each =
+      by_table (λ r. is_some r ≡ true → P (unwrap_or r no_shape)) n (λ e. absurd (true≢false (sym e))) (λ i h q e. each i h q) there
+
+-- ---- what the search gives
+
+pub found : (n : ℕ) {shape : Shape} → shape_at n ≡ Some shape → (shape ≡ shape_of n) × (is_guard n ≡ true)
+unfolding shape_of
+found n e = (rw e refl, rw e refl)
+
+pub missed : (n : ℕ) → shape_at n ≡ None → is_guard n ≡ false
+missed n e = rw e refl
+
+-- only where there says so
+pub found-there : (there : Bool) (n : ℕ) → cond there (shape_at n) None ≡ cond (there && is_guard n) (Some (shape_of n)) None
+unfolding shape_of
+found-there true n = go (shape_at n)
+  where
+    go : (r : Option Shape) → r ≡ cond (is_some r) (Some (unwrap_or r no_shape)) None
+    go None = refl
+    go (Some shape) = refl
+found-there false n = refl
 
 -- ---- a test that every row passes
 

@@ -1,6 +1,6 @@
 -- Which guards there are: document 01, "Guard: base regions, window size", "Granule 4,096 bytes", "guard n raises 138 + n"; and the four of
 -- document 02, Q-6, on the AHB bus.
-use Rattle.std.specs.Prelude.{Bool, true, false, cond, List, [], ◌∷◌, ℕ, suc, ◌-◌, ◌^◌, eqb, length}
+use Rattle.std.specs.Prelude.{Bool, cond, List, [], ◌∷◌, ℕ, suc, ◌-◌, ◌^◌, eqb, length, Option, Some, None, is_some, unwrap_or}
 use Rattle.access.specs.declared.bus.Bus.{Bus}
 use Rattle.access.specs.declared.bus.Bus.TheVariants.{Axi, Ahb}
 use Rattle.risaf.specs.declared.guards.Shape.{Shape}
@@ -51,7 +51,6 @@ low_bits granule = granule - 1
 abbrev pub shaped : ℕ → GuardRow → Shape
 shaped place g =
     record {
-      there = true;
       place = place;
       regions = g.regions;
       window = g.window;
@@ -60,18 +59,21 @@ shaped place g =
       flag = record { 0 = g.flag };
     }
 
--- a number that is no guard's has no region and no window
-abbrev pub no_shape : Shape
-no_shape =
-    record { there = false; place = 0; regions = 0; window = 0; granule = 0; bus = Axi; flag = record { 0 = 0 } }
-
 -- the shape of guard n by the rows of a table whose first has this place
-unfoldable pub shape_in : List GuardRow → ℕ → ℕ → Shape
-shape_in [] place n = no_shape
-shape_in (g ∷ gs) place n = cond (eqb n g.number) (shaped place g) (shape_in gs (suc place) n)
+unfoldable pub shape_in : List GuardRow → ℕ → ℕ → Option Shape
+shape_in [] place n = None
+shape_in (g ∷ gs) place n = cond (eqb n g.number) (Some (shaped place g)) (shape_in gs (suc place) n)
 
-unfoldable pub shape_of : ℕ → Shape
-shape_of n = shape_in guards 0 n
+-- of guard n, if there is one
+unfoldable pub shape_at : ℕ → Option Shape
+shape_at n = shape_in guards 0 n
 
 abbrev pub is_guard : ℕ → Bool
-is_guard n = (shape_of n).there
+is_guard n = is_some (shape_at n)
+
+-- a number that is no guard's has no region and no window
+abbrev pub no_shape : Shape
+no_shape = record { place = 0; regions = 0; window = 0; granule = 0; bus = Axi; flag = record { 0 = 0 } }
+
+unfoldable pub shape_of : ℕ → Shape
+shape_of n = unwrap_or (shape_at n) no_shape

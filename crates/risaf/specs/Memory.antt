@@ -1,12 +1,15 @@
 -- A memory access to a guard: document 01, the order of its checks, and "A refused memory access sets IAEF"; document 02, Q-5, the reason, and Q-6,
 -- "every access counts, and is recorded in IAESR, as CID 0 (a number over 7 still gets 4)".
-use Rattle.std.specs.Prelude.{Bool, true, ◌&&◌, ◌||◌, cond, ℕ, ◌+◌, ◌*◌, ◌%◌, ltb, eqb}
+use Rattle.std.specs.Prelude.{Bool, true, ◌&&◌, ◌||◌, cond, ℕ, ◌+◌, ◌*◌, ◌%◌, ltb, eqb, Option, Some, None, Result, Ok, Err}
 use Rattle.words.specs.Bit.{bit, one, merged, with_bit}
 use Rattle.access.specs.Answer.{left}
 use Rattle.access.specs.Bus.{heard}
 use Rattle.access.specs.Checks.{answered, answered_with}
 use Rattle.access.specs.Kind.{is_cid}
 use Rattle.access.specs.declared.answer.Answer.{Answer}
+use Rattle.access.specs.declared.answer.Answer.TheVariants.{Done, Refused, Rejected}
+use Rattle.access.specs.declared.answer.Why.{Why}
+use Rattle.access.specs.declared.answer.Why.TheVariants.{NoSuch}
 use Rattle.access.specs.declared.checks.Checks.{Checks}
 use Rattle.access.specs.declared.kind.Kind.{Kind}
 use Rattle.regions.specs.Rules.{decided, granted}
@@ -41,9 +44,16 @@ unfoldable pub memory_answer : Bool → Shape → ℕ → ℕ → Kind → Verdi
 memory_answer there shape o width k verdict =
     answered_with (memory_checks there shape o width k (granted verdict)) (rule_number verdict.rule) (refused_number verdict.reason)
 
--- what the code goes by, before it asks the rules: the answer if they grant
-unfoldable pub memory_checked : Bool → Shape → ℕ → ℕ → Kind → Answer
-memory_checked there shape o width k = answered (memory_checks there shape o width k true) 0
+-- the shape, unless the access is rejected
+abbrev pub unrejected : Answer → Shape → Result Shape Why
+unrejected (Done v) shape = Ok shape
+unrejected (Refused v) shape = Ok shape
+unrejected (Rejected why) shape = Err why
+
+-- what the code goes by, before it asks the rules, of a guard if there is one: its shape, or why the access is rejected even if they grant
+unfoldable pub memory_checked : Option Shape → ℕ → ℕ → Kind → Result Shape Why
+memory_checked None o width k = Err NoSuch
+memory_checked (Some shape) o width k = unrejected (answered (memory_checks true shape o width k true) 0) shape
 
 -- a kind of asking as IAESR records it: CID 2:0, privileged 4, secure 5, write 7
 abbrev pub iaesr_of : Kind → ℕ

@@ -1,5 +1,5 @@
 -- A register access to a guard: document 01, "Register rights".
-use Rattle.std.specs.Prelude.{Bool, true, false, not, ◌&&◌, ◌||◌, cond, List, ℕ, ◌%◌, eqb, get_or}
+use Rattle.std.specs.Prelude.{Bool, true, false, not, ◌&&◌, ◌||◌, cond, List, ℕ, ◌%◌, eqb, get_or, Option, Some, None}
 use Rattle.words.specs.Bit.{bit, word, field, masked, less, merged, united, with_bit}
 use Rattle.access.specs.Answer.{left}
 use Rattle.access.specs.Checks.{answered, unless}
@@ -7,7 +7,7 @@ use Rattle.access.specs.Kind.{equals}
 use Rattle.access.specs.Request.{gives}
 use Rattle.access.specs.declared.answer.Answer.{Answer}
 use Rattle.access.specs.declared.answer.Answer.TheVariants.{Done, Refused, Rejected}
-use Rattle.access.specs.declared.answer.Why.TheVariants.{Misaligned, NoRegister, NoSuch}
+use Rattle.access.specs.declared.answer.Why.TheVariants.{Misaligned, NoRegister}
 use Rattle.access.specs.declared.bus.Bus.{Bus}
 use Rattle.access.specs.declared.bus.Bus.TheVariants.{Axi, Ahb}
 use Rattle.access.specs.declared.checks.Checks.{Checks}
@@ -16,11 +16,10 @@ use Rattle.access.specs.declared.request.Request.{Request}
 use Rattle.regions.specs.Words.{sec_bit}
 use Rattle.risaf.specs.Contents.{cr_at, iasr_at, guard_words, with_word}
 use Rattle.risaf.specs.Guards.{low_bits}
-use Rattle.risaf.specs.Registers.{register_at}
-use Rattle.risaf.specs.Rows.{row_of}
+use Rattle.risaf.specs.Rows.{row_at}
 use Rattle.risaf.specs.declared.contents.Guard.{Guard}
 use Rattle.risaf.specs.declared.guards.Shape.{Shape}
-use Rattle.risaf.specs.declared.port.Accessed.{Accessed}
+use Rattle.access.specs.declared.accessed.Accessed.{Accessed}
 use Rattle.risaf.specs.declared.port.Port.{Port}
 use Rattle.risaf.specs.declared.rows.Form.{Form}
 use Rattle.risaf.specs.declared.rows.Form.TheVariants.{Kept, Taken, SetByOne, ClearedByOne, GranuleStart, GranuleEnd, SubregionCfgr}
@@ -100,38 +99,53 @@ word_in SubregionCfgr granule named p value secure = subcfgr_written named p val
 abbrev pub word_written : ℕ → Row → Port → ℕ → Bool → ℕ
 word_written granule row p value secure = word_in row.form granule row.named p value secure
 
--- ---- the checks, in their order
+-- ---- the checks, in their order: there says whether the guard is one there is
 
-unfoldable pub checks_of : Shape → Row → Port → Request → Checks
-checks_of shape row p q =
+-- of an access to the register with this row
+unfoldable pub checks_of : Bool → Bus → Row → Port → Request → Checks
+checks_of there bus row p q =
     record {
-      present = shape.there;
+      present = there;
       aligned = eqb (q.offset % 4) 0;
       inside = true;
       fetchless = true;
-      known = row.known;
-      allowed = allowed_of shape.bus row p q;
+      known = true;
+      allowed = allowed_of bus row p q;
       direction = cond q.write row.writable row.readable;
       unlocked = not q.write || not (locked_of row.lock p);
     }
 
-unfoldable pub answer_of : Shape → Row → Port → Request → Answer
-answer_of shape row p q = answered (checks_of shape row p q) (gives q (read_of row p.word))
+-- of an access to an offset that is no register's: no more is tested
+unfoldable pub checks_none : Bool → Request → Checks
+checks_none there q =
+    record {
+      present = there;
+      aligned = eqb (q.offset % 4) 0;
+      inside = true;
+      fetchless = true;
+      known = false;
+      allowed = true;
+      direction = true;
+      unlocked = true;
+    }
+
+unfoldable pub answer_of : Bool → Bus → Row → Port → Request → Answer
+answer_of there bus row p q = answered (checks_of there bus row p q) (gives q (read_of row p.word))
 
 -- ---- the answer to a read, among a guard's words: what code goes by
 
 -- of the register with this row, at an offset that is a multiple of 4
 unfoldable pub read_reached : Row → ℕ → Request → Answer
 read_reached row old q =
-    unless row.known (Rejected NoRegister)
-    (unless (not row.guarded || q.secure && q.privileged) (Refused 0)
-    (unless row.readable (Rejected NoRegister) (Done (read_of row old))))
+    unless (not row.guarded || q.secure && q.privileged) (Refused 0)
+    (unless row.readable (Rejected NoRegister) (Done (read_of row old)))
+
+unfoldable pub read_at : Option Row → List ℕ → Request → Answer
+read_at None w q = Rejected NoRegister
+read_at (Some row) w q = read_reached row (get_or w row.place 0) q
 
 unfoldable pub read_answer : Shape → List ℕ → Request → Answer
-read_answer shape w q =
-    let row = row_of (register_at shape.regions q.offset) in
-    unless shape.there (Rejected NoSuch)
-    (unless (eqb (q.offset % 4) 0) (Rejected Misaligned) (read_reached row (get_or w row.place 0) q))
+read_answer shape w q = unless (eqb (q.offset % 4) 0) (Rejected Misaligned) (read_at (row_at shape.regions q.offset) w q)
 
 -- ---- what an access leaves
 
@@ -151,9 +165,9 @@ refused_port p =
       word = p.word;
     }
 
-unfoldable pub accessed : Shape → Row → Port → Request → Accessed
-accessed shape row p q =
-    let a = answer_of shape row p q in
+unfoldable pub accessed : Bool → Shape → Row → Port → Request → Accessed Port
+accessed there shape row p q =
+    let a = answer_of there shape.bus row p q in
     let w = word_written shape.granule row p q.value q.secure in
     record {
       next = left a p (cond q.write (with_port_word p w) p) (refused_port p);
@@ -166,13 +180,17 @@ pub record Stepped : Type 0 where
   pub next : Guard
   pub answer : Answer
 
-unfoldable pub stepped : Shape → Guard → Request → Stepped
-stepped shape g q =
-    let row = row_of (register_at shape.regions q.offset) in
-    let r = accessed shape row (port_in (guard_words g) row) q in
+-- by the row of the register, if there is one
+unfoldable pub stepped_at : Bool → Shape → Option Row → Guard → Request → Stepped
+stepped_at there shape None g q = record { next = g; answer = answered (checks_none there q) 0 }
+stepped_at there shape (Some row) g q =
+    let r = accessed there shape row (port_in (guard_words g) row) q in
     record {
       next =
           left r.answer g (cond q.write (with_word g row.place r.next.word) g)
           (with_word g iasr_at r.next.iasr);
       answer = r.answer;
     }
+
+unfoldable pub stepped : Bool → Shape → Guard → Request → Stepped
+stepped there shape g q = stepped_at there shape (row_at shape.regions q.offset) g q

@@ -1,7 +1,8 @@
 -- The table of registers: document 01, "Guards", its second and third paragraphs.
-use Rattle.std.specs.Prelude.{Bool, true, false, ℕ, ◌+◌, ◌<◌}
+use Rattle.std.specs.Prelude.{Bool, true, false, ℕ, ◌+◌, ◌<◌, Option, option_map}
 use Rattle.regions.specs.Words.{most_regions, base, sub, start_at, end_at, cidcfgr_at, nest_at}
 use Rattle.risaf.specs.Contents.{cr_at, iasr_at, iaesr_at, iaddr_at, head_words}
+use Rattle.risaf.specs.Registers.{register_at}
 use Rattle.risaf.specs.declared.rows.Lock.{Lock}
 use Rattle.risaf.specs.declared.rows.Lock.TheVariants.{Glock, Rlock, Never}
 use Rattle.risaf.specs.declared.rows.Form.{Form}
@@ -14,14 +15,13 @@ use Rattle.risaf.specs.declared.registers.BaseField.TheVariants.{Cfgr, Start, En
 use Rattle.risaf.specs.declared.registers.SubField.{SubField}
 use Rattle.risaf.specs.declared.registers.SubField.TheVariants.{SubCfgr, SubStart, SubEnd, Nest}
 use Rattle.risaf.specs.declared.registers.Register.{Register}
-use Rattle.risaf.specs.declared.registers.Register.TheVariants.{OfHead, OfBase, OfSub, Unknown}
+use Rattle.risaf.specs.declared.registers.Register.TheVariants.{OfHead, OfBase, OfSub}
 
 -- ---- rows, of a register that is none of a region's, of one of base region x, of one of its subregion s
 
 abbrev pub head_row : Bool → Bool → Bool → Lock → Form → ℕ → ℕ → Row
 head_row readable writable guarded lock form named place =
     record {
-      known = true;
       readable = readable;
       writable = writable;
       guarded = guarded;
@@ -38,7 +38,6 @@ head_row readable writable guarded lock form named place =
 abbrev pub base_row : ℕ → Form → ℕ → ℕ → Row
 base_row x form named field =
     record {
-      known = true;
       readable = true;
       writable = true;
       guarded = false;
@@ -55,7 +54,6 @@ base_row x form named field =
 abbrev pub sub_row : ℕ → ℕ → Bool → Lock → Form → ℕ → ℕ → Row
 sub_row x s delegable lock form named field =
     record {
-      known = true;
       readable = true;
       writable = true;
       guarded = false;
@@ -99,28 +97,16 @@ unfoldable pub row_of : Register → Row
 row_of (OfHead head) = of_head head
 row_of (OfBase x field) = of_base x field
 row_of (OfSub x s field) = of_sub x s field
-row_of Unknown =
-    record {
-      known = false;
-      readable = false;
-      writable = false;
-      guarded = false;
-      delegable = false;
-      lock = Glock;
-      form = Kept;
-      named = 0;
-      place = 0;
-      base = 0;
-      sub = 0;
-      nest = 0;
-    }
+
+-- the row of the register at an offset, of a guard with n base regions
+unfoldable pub row_at : ℕ → ℕ → Option Row
+row_at n o = option_map row_of (register_at n o)
 
 -- the register is one of a guard with n base regions
 abbrev pub PlacedIn : ℕ → Register → Type 0
 PlacedIn n (OfHead head) = Unit {0}
 PlacedIn n (OfBase x field) = x < n
 PlacedIn n (OfSub x s field) = (x < n) × (s < 2)
-PlacedIn n Unknown = Unit {0}
 
 -- of any guard: what code goes by
 abbrev pub Placed : Register → Type 0

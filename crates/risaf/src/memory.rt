@@ -1,10 +1,10 @@
-ghost use Rattle.std.specs.Prelude.{cond, true, ◌≡◌, ◌%◌, eqb, ltb};
-ghost use Rattle.access.specs.declared.answer.Answer.TheVariants.{Done, Rejected};
-ghost use Rattle.access.specs.declared.answer.Why.TheVariants.{Outside};
-ghost use Rattle.risaf.specs.Memory.{is_width, memory_checked, recorded_fault};
+#![tactic(auto, unfolding(crate::specs::Memory::memory_checked, crate::specs::Memory::memory_checks, crate::specs::Memory::recorded_fault, crate::specs::Rows::of_head, access::specs::Checks::answered_with, access::specs::Checks::reached_with))]
+
+ghost use Rattle.std.specs.Prelude.{◌≡◌};
+ghost use Rattle.risaf.specs.Memory.{memory_checked, recorded_fault};
 
 use crate::Shape;
-use access::{Answer, DEBUGGER, Kind, Why};
+use access::{DEBUGGER, Kind, Why};
 use regions::places::COMPARTMENTS;
 
 // The fault registers, as stored.
@@ -26,65 +26,30 @@ const WRITE: u32 = 128;
 
 const IAESR_NAMED: u32 = 0xb7;
 
-// The bytes of a word.
-const WORD: u32 = 4;
-
-fn is_width(width: u32) -> bool
-    ensures { result ≡ is_width width }
+// The shape of the guard, where the rules are to be asked of a memory access of a kind, or why it is rejected before. None stands for no
+// such guard, or no such master.
+pub fn memory_checked(guard: Option<Shape>, o: u32, width: u32, k: Kind) -> Result<Shape, Why>
+    ensures { result ≡ memory_checked guard o width k }
 {
-    (width == 1) | (width == 2) | (width == 4)
-}
-
-// Whether the offset is a multiple of a width that there is. Of another width nobody asks: it is refused first.
-fn aligned(o: u32, width: u32) -> bool
-    ensures { is_width width ≡ true → result ≡ eqb (o % width) 0 }
-{
-    match width {
+    let Some(shape) = guard else {
+        return Err(Why::NoSuch);
+    };
+    if DEBUGGER.0 < k.cid.0 {
+        return Err(Why::NoSuch);
+    }
+    let aligned = match width {
+        1 => true,
         2 => o % 2 == 0,
         4 => o % 4 == 0,
-        _ => true,
+        _ => return Err(Why::NoSuch),
+    };
+    if !aligned {
+        return Err(Why::Misaligned);
     }
-}
-
-// The answer to an access of which nothing is left to be tested but its place in the window.
-fn placed(window: u64, o: u32) -> Answer
-    ensures { result ≡ cond (ltb o window) (Done 0) (Rejected Outside) }
-{
-    if window <= o as u64 {
-        return Answer::Rejected(Why::Outside);
+    if shape.window <= o as u64 {
+        return Err(Why::Outside);
     }
-    Answer::Done(0)
-}
-
-// The answer to a memory access of a kind if the rules grant it: done, where they are to be asked. there says whether the guard, and the
-// master, are ones there are.
-pub fn memory_checked(there: bool, shape: Shape, o: u32, width: u32, k: Kind) -> Answer
-    ensures { result ≡ memory_checked there shape o width k }
-{
-    // Each test before the next is made: most accesses pass all.
-    if !there {
-        return Answer::Rejected(Why::NoSuch);
-    }
-    if DEBUGGER.0 < k.cid.0 {
-        return Answer::Rejected(Why::NoSuch);
-    }
-    // A word is what is asked for most.
-    if WORD <= width {
-        if width != WORD {
-            return Answer::Rejected(Why::NoSuch);
-        }
-        if o % WORD != 0 {
-            return Answer::Rejected(Why::Misaligned);
-        }
-        return placed(shape.window, o);
-    }
-    if !is_width(width) {
-        return Answer::Rejected(Why::NoSuch);
-    }
-    if !aligned(o, width) {
-        return Answer::Rejected(Why::Misaligned);
-    }
-    placed(shape.window, o)
+    Ok(shape)
 }
 
 impl Faults {
@@ -94,11 +59,7 @@ impl Faults {
     {
         let iasr = words::with_bit(self.iasr, IAEF, true);
         if (self.iasr >> IAEF) % 2 == 1 {
-            return Faults {
-                iasr,
-                iaesr: self.iaesr,
-                iaddr: self.iaddr,
-            };
+            return Faults { iasr, ..self };
         }
         let cid = k.cid.0 % COMPARTMENTS;
         let kind = cid

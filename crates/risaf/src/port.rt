@@ -1,4 +1,6 @@
-ghost use Rattle.std.specs.Prelude.{◌&&◌, cond, true, ◌≡◌, ◌%◌, eqb, get_or};
+#![tactic(auto, unfolding(crate::specs::Port::accessed, crate::specs::Port::answer_of, crate::specs::Port::checks_of, crate::specs::Port::allowed_of, crate::specs::Port::delegated, crate::specs::Port::port_in, crate::specs::Port::read_of, crate::specs::Port::read_reached, crate::specs::Port::read_at, crate::specs::Port::read_answer, crate::specs::Port::word_in, crate::specs::Rows::row_at, crate::specs::Rows::row_of))]
+
+ghost use Rattle.std.specs.Prelude.{◌&&◌, cond, true, ◌≡◌, get_or};
 ghost use Rattle.words.specs.Bit.{word};
 ghost use Rattle.risaf.specs.Port.{
   accessed,
@@ -18,7 +20,7 @@ use crate::contents::{CR, IASR};
 use crate::guards::{Shape, low_bits};
 use crate::registers::{Register, register_at};
 use crate::rows::{Form, Lock, Row};
-use access::{Answer, Bus, Checks, Cid, Request, Why};
+use access::{Accessed, Answer, Bus, Checks, Cid, Request, Why};
 use regions::places::{COMPARTMENTS, SEC};
 
 // What an access to a register needs of the guard.
@@ -35,13 +37,6 @@ pub struct Port {
     pub word: u32,
 }
 
-// What an access leaves: the next of all that, and the answer.
-#[derive(Clone, Copy)]
-pub struct Accessed {
-    pub next: Port,
-    pub answer: Answer,
-}
-
 // Bits of NEST, of a subregion's CFGR, and of IASR.
 const DCEN: u32 = 2;
 
@@ -55,7 +50,7 @@ pub const CAEF: u32 = 0;
 fn word_in(w: &[u32], at: usize) -> u32
     ensures { result ≡ get_or w.now at 0 }
 {
-    if at < w.len() { w[at] } else { 0 }
+    w.get(at).copied().unwrap_or(0)
 }
 
 // The compartment that the port always speaks as. AHB carries none.
@@ -74,7 +69,7 @@ fn delegated(bus: Bus, p: Port, secure: bool) -> bool
 {
     if (p.nest >> DCEN) % 2 == 1 {
         let dccid = Cid((p.nest >> DCCID) % COMPARTMENTS);
-        return dccid.equals(port_cid(bus)) & (secure | !((p.base >> SEC) % 2 == 1));
+        return (dccid == port_cid(bus)) & (secure | !((p.base >> SEC) % 2 == 1));
     }
     secure
 }
@@ -99,44 +94,30 @@ fn locked(lock: Lock, p: Port) -> bool
     }
 }
 
-// The checks of an access to the register with this row, by what differs between reads and writes: there says whether the guard is one
-// there is.
-fn checks(
-    there: bool,
-    row: Row,
-    offset: u32,
-    allowed: bool,
-    direction: bool,
-    unlocked: bool,
-) -> Checks
-    ensures { result ≡ record { present = there; aligned = eqb (offset % 4) 0; inside = true; fetchless = true; known = row.known; allowed = allowed; direction = direction; unlocked = unlocked } }
+// The answer to an access to the register with this row. No lock stops a read.
+fn answer(bus: Bus, row: Row, p: Port, q: Request) -> Answer
+    ensures { result ≡ answer_of true bus row p q }
 {
-    Checks {
-        present: there,
-        aligned: offset % 4 == 0,
+    let read = Checks {
+        present: true,
+        aligned: q.offset % 4 == 0,
         inside: true,
         fetchless: true,
-        known: row.known,
-        allowed,
-        direction,
-        unlocked,
+        known: true,
+        allowed: !row.guarded | (q.secure & q.privileged),
+        direction: row.readable,
+        unlocked: true,
+    };
+    if !q.write {
+        return read.answer(words::masked(p.word, row.named));
     }
-}
-
-// The answer to an access to the register with this row.
-fn answer(shape: Shape, row: Row, p: Port, q: Request) -> Answer
-    ensures { result ≡ answer_of shape row p q }
-{
-    if q.write {
-        let bus = shape.bus;
-        let lock = row.lock;
-        let allowed = may_write(bus, row, p, q);
-        let unlocked = !locked(lock, p);
-        return checks(shape.there, row, q.offset, allowed, row.writable, unlocked).answer(0);
-    }
-    let allowed = !row.guarded | (q.secure & q.privileged);
-    let read = words::masked(p.word, row.named);
-    checks(shape.there, row, q.offset, allowed, row.readable, true).answer(read)
+    let write = Checks {
+        allowed: may_write(bus, row, p, q),
+        direction: row.writable,
+        unlocked: !locked(row.lock, p),
+        ..read
+    };
+    write.answer(0)
 }
 
 // The bits, but bit k only where it may be.
@@ -178,9 +159,6 @@ impl Row {
     fn read(self, w: &[u32], q: Request) -> Answer
         ensures { result ≡ read_reached self (get_or w.now self.place 0) q }
     {
-        if !self.known {
-            return Answer::Rejected(Why::NoRegister);
-        }
         if !(!self.guarded | (q.secure & q.privileged)) {
             return Answer::Refused(0);
         }
@@ -196,18 +174,16 @@ impl Row {
 pub fn read(w: &[u32], shape: Shape, q: Request) -> Answer
     ensures { result ≡ read_answer shape w.now q }
 {
-    if !shape.there {
-        return Answer::Rejected(Why::NoSuch);
-    }
     if q.offset % 4 != 0 {
         return Answer::Rejected(Why::Misaligned);
     }
-    let reg = register_at(shape.regions, q.offset);
+    let Some(reg) = register_at(shape.regions, q.offset) else {
+        return Answer::Rejected(Why::NoRegister);
+    };
     match reg {
         Register::OfHead(head) => head.row().read(w, q),
         Register::OfBase(x, field) => field.row(x).read(w, q),
         Register::OfSub(x, s, field) => field.row(x, s).read(w, q),
-        Register::Unknown => Answer::Rejected(Why::NoRegister),
     }
 }
 
@@ -227,10 +203,10 @@ impl Port {
     }
 
     // An access to the register with this row. A write that is done leaves another word, a refused access sets CAEF.
-    pub fn access(mut self, shape: Shape, row: Row, q: Request) -> Accessed
-        ensures { result ≡ accessed shape row self q }
+    pub fn access(mut self, shape: Shape, row: Row, q: Request) -> Accessed<Port>
+        ensures { result ≡ accessed true shape row self q }
     {
-        let answer = answer(shape, row, self, q);
+        let answer = answer(shape.bus, row, self, q);
         match answer {
             Answer::Done(_) => {
                 if q.write {

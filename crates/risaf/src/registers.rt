@@ -1,7 +1,7 @@
-ghost use Rattle.std.specs.Prelude.{cond, ◌≡◌};
-ghost use Rattle.risaf.specs.Registers.{region_at, region_register, register_at, sub_register};
+#![tactic(auto, unfolding(crate::specs::Registers::region_at, crate::specs::Registers::sub_register, crate::specs::Registers::region_register, crate::specs::Registers::register_at))]
 
-use regions::places::MOST_REGIONS;
+ghost use Rattle.std.specs.Prelude.{◌≡◌};
+ghost use Rattle.risaf.specs.Registers.{region_at, region_register, register_at, sub_register};
 
 // A register that is none of a region's.
 #[derive(Clone, Copy)]
@@ -36,66 +36,65 @@ pub enum Register {
     OfHead(Head),
     OfBase(usize, BaseField),
     OfSub(usize, usize, SubField),
-    Unknown,
 }
 
 // The offsets that a base region's registers take.
 const BLOCK: u32 = 0x40;
 
-// The base region, from 0, whose block an offset lies in; as many as there can be, where it lies in none.
-fn region_at(offset: u32) -> usize
+// The base region, from 0, whose block an offset lies in.
+fn region_at(offset: u32) -> Option<usize>
     ensures { result ≡ region_at offset }
 {
     match offset {
-        0x040..=0x2ff => ((offset - 0x040) / BLOCK) as usize,
-        _ => MOST_REGIONS,
+        0x040..=0x2ff => Some(((offset - 0x040) / BLOCK) as usize),
+        _ => None,
     }
 }
 
 // The register at offset k of the part of subregion s of base region x.
-fn sub_register(x: usize, s: usize, k: u32) -> Register
+fn sub_register(x: usize, s: usize, k: u32) -> Option<Register>
     ensures { result ≡ sub_register x s k }
 {
     match k {
-        0x0 => Register::OfSub(x, s, SubField::SubCfgr),
-        0x4 => Register::OfSub(x, s, SubField::SubStart),
-        0x8 => Register::OfSub(x, s, SubField::SubEnd),
-        0xc => Register::OfSub(x, s, SubField::Nest),
-        _ => Register::Unknown,
+        0x0 => Some(Register::OfSub(x, s, SubField::SubCfgr)),
+        0x4 => Some(Register::OfSub(x, s, SubField::SubStart)),
+        0x8 => Some(Register::OfSub(x, s, SubField::SubEnd)),
+        0xc => Some(Register::OfSub(x, s, SubField::Nest)),
+        _ => None,
     }
 }
 
 // The register at offset k of the block of base region x.
-fn region_register(x: usize, k: u32) -> Register
+fn region_register(x: usize, k: u32) -> Option<Register>
     ensures { result ≡ region_register x k }
 {
     match k {
-        0x0 => Register::OfBase(x, BaseField::Cfgr),
-        0x4 => Register::OfBase(x, BaseField::Start),
-        0x8 => Register::OfBase(x, BaseField::End),
-        0xc => Register::OfBase(x, BaseField::Cidcfgr),
+        0x0 => Some(Register::OfBase(x, BaseField::Cfgr)),
+        0x4 => Some(Register::OfBase(x, BaseField::Start)),
+        0x8 => Some(Register::OfBase(x, BaseField::End)),
+        0xc => Some(Register::OfBase(x, BaseField::Cidcfgr)),
         0x10..=0x1f => sub_register(x, 0, k - 0x10),
         0x20..=0x2f => sub_register(x, 1, k - 0x20),
-        _ => Register::Unknown,
+        _ => None,
     }
 }
 
 // The register at an offset that is a multiple of 4, of a guard with n base regions.
-pub(crate) fn register_at(n: usize, offset: u32) -> Register
+pub(crate) fn register_at(n: usize, offset: u32) -> Option<Register>
     ensures { result ≡ register_at n offset }
 {
     match offset {
-        0x000 => Register::OfHead(Head::Cr),
-        0x008 => Register::OfHead(Head::Iasr),
-        0x00c => Register::OfHead(Head::Iacr),
-        0x020 => Register::OfHead(Head::Iaesr),
-        0x024 => Register::OfHead(Head::Iaddr),
+        0x000 => Some(Register::OfHead(Head::Cr)),
+        0x008 => Some(Register::OfHead(Head::Iasr)),
+        0x00c => Some(Register::OfHead(Head::Iacr)),
+        0x020 => Some(Register::OfHead(Head::Iaesr)),
+        0x024 => Some(Register::OfHead(Head::Iaddr)),
         _ => {
-            let x = region_at(offset);
-            if (x < n) & (x < MOST_REGIONS) {
+            let x = region_at(offset)?;
+            if x < n {
                 region_register(x, offset % BLOCK)
             } else {
-                Register::Unknown
+                None
             }
         }
     }

@@ -1,7 +1,8 @@
+#![tactic(auto, unfolding(crate::specs::Rows::of_head, crate::specs::Rows::of_base, crate::specs::Rows::of_sub, crate::specs::Rows::row_of, crate::specs::Rows::row_at))]
+
 ghost use Rattle.std.specs.Prelude.{◌≡◌, ◌+◌, ◌<◌, ◌≤◌};
 ghost use Rattle.regions.specs.Words.{base_words, most_regions};
-ghost use Rattle.risaf.specs.Registers.{register_at};
-ghost use Rattle.risaf.specs.Rows.{Placed, base_row, head_row, of_base, of_head, of_sub, row_of, sub_row};
+ghost use Rattle.risaf.specs.Rows.{Placed, base_row, head_row, of_base, of_head, of_sub, row_at, row_of, sub_row};
 
 use crate::contents::{CR, HEAD_WORDS, IADDR, IAESR, IASR};
 use crate::registers::{BaseField, Head, Register, SubField, register_at};
@@ -31,7 +32,6 @@ pub enum Form {
 // A register's row of the table: all that is fixed of it.
 #[derive(Clone, Copy)]
 pub struct Row {
-    pub known: bool,
     // Not write-only, not read-only.
     pub readable: bool,
     pub writable: bool,
@@ -64,7 +64,6 @@ fn head_row(
     ensures { result ≡ head_row readable writable guarded lock form named place }
 {
     Row {
-        known: true,
         readable,
         writable,
         guarded,
@@ -85,7 +84,6 @@ fn base_row(x: usize, form: Form, named: u32, field: usize) -> Row
 {
     let base = HEAD_WORDS + REGION_WORDS * x;
     Row {
-        known: true,
         readable: true,
         writable: true,
         guarded: false,
@@ -112,21 +110,14 @@ fn sub_row(
     requires { (x < most_regions) × (s < 2) × (field < base_words) }
     ensures { result ≡ sub_row x s delegable lock form named field }
 {
-    let base = HEAD_WORDS + REGION_WORDS * x;
     let sub = HEAD_WORDS + (REGION_WORDS * x + BASE_WORDS + SUBREGION_WORDS * s);
     Row {
-        known: true,
-        readable: true,
-        writable: true,
-        guarded: false,
         delegable,
         lock,
-        form,
-        named,
         place: sub + field,
-        base,
         sub,
         nest: sub + NEST,
+        ..base_row(x, form, named, field)
     }
 }
 
@@ -192,26 +183,13 @@ fn row_of(reg: Register) -> Row
         Register::OfHead(head) => head.row(),
         Register::OfBase(x, field) => field.row(x),
         Register::OfSub(x, s, field) => field.row(x, s),
-        Register::Unknown => Row {
-            known: false,
-            readable: false,
-            writable: false,
-            guarded: false,
-            delegable: false,
-            lock: Lock::Glock,
-            form: Form::Kept,
-            named: 0,
-            place: 0,
-            base: 0,
-            sub: 0,
-            nest: 0,
-        },
     }
 }
 
 // The row of the register at an offset that is a multiple of 4, of a guard with n base regions.
-pub fn row_at(n: usize, offset: u32) -> Row
-    ensures { result ≡ row_of (register_at n offset) }
+pub fn row_at(n: usize, offset: u32) -> Option<Row>
+    ensures { result ≡ row_at n offset }
 {
-    row_of(register_at(n, offset))
+    let reg = register_at(n, offset)?;
+    Some(row_of(reg))
 }
