@@ -1,6 +1,6 @@
 -- The order of the checks: document 01, "Order: 8, 4, 5, 6, 7, unknown offset (3), 1, wrong direction (3), 2, effect".
 -- 8 comes first of all, before lent memory is read as a state.
-use Rattle.std.specs.Prelude.{Bool, true, false, ℕ}
+use Rattle.std.specs.Prelude.{Bool, true, false, ℕ, ◌%◌, eqb}
 use Rattle.access.specs.declared.answer.Why.TheVariants.{Locked, NoRegister, NoSuch, Misaligned, Outside, Fetch}
 use Rattle.access.specs.declared.answer.Answer.{Answer}
 use Rattle.access.specs.declared.answer.Answer.TheVariants.{Done, Refused, Rejected}
@@ -35,3 +35,19 @@ reached c value = reached_with c value 0
 
 abbrev pub answered : Checks → ℕ → Answer
 answered c value = answered_with c value 0
+
+-- of a register access at an offset that is no register's: 5, 3
+abbrev pub no_register : ℕ → Answer
+no_register offset =
+    answered
+    (record {
+      present = true;
+      aligned = eqb (offset % 4) 0;
+      inside = true;
+      fetchless = true;
+      known = false;
+      allowed = true;
+      direction = true;
+      unlocked = true;
+    })
+    0

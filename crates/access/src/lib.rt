@@ -12,7 +12,7 @@ pub mod request;
 pub use accessed::Accessed;
 pub use answer::{Answer, Why};
 pub use bus::Bus;
-pub use checks::Checks;
+pub use checks::{Checks, PASSED};
 pub use flag::Flag;
 pub use kind::{Cid, DEBUGGER, Kind};
 pub use request::Request;

@@ -14,7 +14,8 @@ use Rattle.access.specs.declared.request.Request.{Request}
 use Rattle.iac.specs.Contents.{stored, with_word}
 use Rattle.iac.specs.Flags.{is_flag, flag_set, raise}
 use Rattle.iac.specs.Held.{held_line, held}
-use Rattle.iac.specs.Port.{read_of, word_written, answer_of, written, stepped}
+use Rattle.iac.specs.Port.{read_of, word_written, answer_of, written, stepped_at, stepped}
+use Rattle.std.specs.Prelude.{Option, Some, None}
 use Rattle.iac.specs.Registers.{register_at, iisr, row_of}
 use Rattle.iac.specs.declared.contents.Iac.{Iac}
 use Rattle.iac.specs.declared.registers.Register.{Register}
@@ -52,18 +53,18 @@ module _ {S t s : Iac} (has : Has S) (own : Alike Kept S t s) where
       go false e = own
 
 pub stepped_kept : {S s : Iac} → Has S → Alike Kept S s s → (q : Request) → Alike Kept S (stepped s q).next s
-unfolding stepped written
-stepped_kept {S} {s} has own q =
-    let reg = register_at q.offset in
-    go (answer_of (row_of reg) (stored s reg) q) q.write
+unfolding stepped_at written
+stepped_kept {S} {s} has own q = at (register_at q.offset)
   where
-    go : (a : Answer) (w : Bool) → Alike Kept S (leaves a w s (register_at q.offset) q) s
-    go (Done v) true =
-        let reg = register_at q.offset in
-        with-kept has own reg _ (word_kept reg (stored S reg) (stored s reg) q.value (has.words reg))
-    go (Done v) false = own
-    go (Refused v) w = own
-    go (Rejected why) w = own
+    go : (reg : Register) (a : Answer) (w : Bool) → Alike Kept S (leaves a w s reg q) s
+    go reg (Done v) true = with-kept has own reg _ (word_kept reg (stored S reg) (stored s reg) q.value (has.words reg))
+    go reg (Done v) false = own
+    go reg (Refused v) w = own
+    go reg (Rejected why) w = own
+
+    at : (o : Option Register) → Alike Kept S (stepped_at o s q).next s
+    at None = own
+    at (Some reg) = go reg (answer_of (row_of reg) (stored s reg) q) q.write
 
 -- ---- they read named bits alone, and leave them alike where they were
 
@@ -79,19 +80,18 @@ module _ {S s s' : Iac} (has : Has S) (same : Alike Same S s s') where
   answer-same reg q = rw (same-masked (row_of reg).named (stored S reg) _ _ (has.words reg) (word-alike reg))
 
   pub stepped_same : (q : Request) → ((stepped s q).answer ≡ (stepped s' q).answer) × Alike Same S (stepped s q).next (stepped s' q).next
-  unfolding stepped written
-  stepped_same q =
-      let reg = register_at q.offset in
-      let e = answer-same reg q in
-      (e, rw e (go (answer_of (row_of reg) (stored s' reg) q) q.write))
+  unfolding stepped_at written
+  stepped_same q = at (register_at q.offset)
     where
-      go : (a : Answer) (w : Bool) → Alike Same S (leaves a w s (register_at q.offset) q) (leaves a w s' (register_at q.offset) q)
-      go (Done v) true =
-          let reg = register_at q.offset in
-          with-same reg _ _ (word_same reg (stored S reg) _ _ q.value (word-alike reg))
-      go (Done v) false = same
-      go (Refused v) w = same
-      go (Rejected why) w = same
+      go : (reg : Register) (a : Answer) (w : Bool) → Alike Same S (leaves a w s reg q) (leaves a w s' reg q)
+      go reg (Done v) true = with-same reg _ _ (word_same reg (stored S reg) _ _ q.value (word-alike reg))
+      go reg (Done v) false = same
+      go reg (Refused v) w = same
+      go reg (Rejected why) w = same
+
+      at : (o : Option Register) → ((stepped_at o s q).answer ≡ (stepped_at o s' q).answer) × Alike Same S (stepped_at o s q).next (stepped_at o s' q).next
+      at None = (refl, same)
+      at (Some reg) = let e = answer-same reg q in (e, rw e (go reg (answer_of (row_of reg) (stored s' reg) q) q.write))
 
   pub raise-same : (i : Flag) → Alike Same S (raise i s) (raise i s')
   unfolding raise flag_set stored

@@ -10,7 +10,7 @@ use Rattle.iac.specs.Port.{word_written}
 use Rattle.iac.specs.Registers.{iisr, row_of}
 use Rattle.iac.specs.declared.contents.Iac.{Iac}
 use Rattle.iac.specs.declared.registers.Register.{Register}
-use Rattle.iac.specs.declared.registers.Register.TheVariants.{Ier, Isr, Icr, Iisr, Unknown}
+use Rattle.iac.specs.declared.registers.Register.TheVariants.{Ier, Isr, Icr, Iisr}
 
 pub record Alike (R : ℕ → ℕ → ℕ → Type 0) (S s s' : Iac) : Type 0 where
   pub ier : Each R S.ier s.ier s'.ier
@@ -33,7 +33,6 @@ module _ {R : ℕ → ℕ → ℕ → Type 0} {S s s' : Iac} (z : R 0 0 0) (r : 
   stored-alike (Isr x) = each-get r.isr z x
   stored-alike (Icr x) = each-get r.isr z x
   stored-alike (Iisr x) = z
-  stored-alike Unknown = z
 
   pub with-alike : {w w' : ℕ} (reg : Register) → R (stored S reg) w w' → Alike R S (with_word s reg w) (with_word s' reg w')
   unfolding stored with_word
@@ -41,7 +40,6 @@ module _ {R : ℕ → ℕ → ℕ → Type 0} {S s s' : Iac} (z : R 0 0 0) (r : 
   with-alike (Isr x) e = r
   with-alike (Icr x) e = record { ier = r.ier; isr = each_set r.isr x 0 e; line = r.line; count = r.count }
   with-alike (Iisr x) e = r
-  with-alike Unknown e = r
 
 -- the word that is stored, stored again
 pub stored-again : (s : Iac) (reg : Register) → with_word s reg (stored s reg) ≡ s
@@ -50,7 +48,6 @@ stored-again s (Ier x) = rw (set-get_or s.ier x 0)
 stored-again s (Isr x) = refl
 stored-again s (Icr x) = rw (set-get_or s.isr x 0)
 stored-again s (Iisr x) = refl
-stored-again s Unknown = refl
 
 -- ---- the word that a write leaves
 
@@ -62,7 +59,6 @@ word_kept (Icr x) mask old value within =
     kept_word mask old _
     (λ j l h. ap (λ (b : Bool). bit old j && not (b && bit value j)) (within-not (iisr x) mask within j l h) ∙ and-true (bit old j))
 word_kept (Iisr x) mask old value within = kept_refl mask old
-word_kept Unknown mask old value within = kept_refl mask old
 
 pub word_same : (reg : Register) (mask x y value : ℕ) → Same mask x y → Same mask (word_written reg x value) (word_written reg y value)
 unfolding word_written
@@ -71,4 +67,3 @@ word_same (Isr i) mask x y value r = r
 word_same (Icr i) mask x y value r =
     same_word mask _ _ (λ j l h. ap (λ (b : Bool). b && not (bit (iisr i) j && bit value j)) (r.bits j l h))
 word_same (Iisr i) mask x y value r = r
-word_same Unknown mask x y value r = r

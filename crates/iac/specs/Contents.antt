@@ -2,7 +2,7 @@
 use Rattle.std.specs.Prelude.{ℕ, get_or, set, replicate}
 use Rattle.words.specs.Six.{bit_words}
 use Rattle.iac.specs.declared.registers.Register.{Register}
-use Rattle.iac.specs.declared.registers.Register.TheVariants.{Ier, Isr, Icr, Iisr, Unknown}
+use Rattle.iac.specs.declared.registers.Register.TheVariants.{Ier, Isr, Icr, Iisr}
 use Rattle.iac.specs.declared.contents.Iac.{Iac}
 use Rattle.iac.specs.declared.held.Held.{Held}
 
@@ -12,7 +12,6 @@ stored s (Ier x) = get_or s.ier x 0
 stored s (Isr x) = get_or s.isr x 0
 stored s (Icr x) = get_or s.isr x 0
 stored s (Iisr x) = 0
-stored s Unknown = 0
 
 -- the IAC with another word stored for a register that can be written
 unfoldable pub with_word : Iac → Register → ℕ → Iac
@@ -20,7 +19,6 @@ with_word s (Ier x) v = record { ier = set s.ier x v; isr = s.isr; line = s.line
 with_word s (Isr x) v = s
 with_word s (Icr x) v = record { ier = s.ier; isr = set s.isr x v; line = s.line; count = s.count }
 with_word s (Iisr x) v = s
-with_word s Unknown v = s
 
 -- the words that keep the line and the count, by value
 abbrev pub held_of : Iac → Held

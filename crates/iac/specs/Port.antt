@@ -1,9 +1,10 @@
 -- A register access to the IAC: document 01, "IAC".
-use Rattle.std.specs.Prelude.{true, not, ◌&&◌, ◌||◌, cond, ℕ, ◌%◌, eqb}
+use Rattle.std.specs.Prelude.{true, not, ◌&&◌, ◌||◌, cond, ℕ, ◌%◌, eqb, Option, Some, None}
 use Rattle.words.specs.Bit.{bit, word, masked, merged, united}
 use Rattle.access.specs.Answer.{left}
-use Rattle.access.specs.Checks.{answered, unless}
+use Rattle.access.specs.Checks.{answered, no_register, unless}
 use Rattle.access.specs.Request.{gives}
+use Rattle.access.specs.declared.accessed.Accessed.{Accessed}
 use Rattle.access.specs.declared.answer.Answer.{Answer}
 use Rattle.access.specs.declared.answer.Answer.TheVariants.{Done, Refused, Rejected}
 use Rattle.access.specs.declared.answer.Why.TheVariants.{Misaligned, NoRegister}
@@ -14,9 +15,8 @@ use Rattle.iac.specs.declared.registers.Row.{Row}
 use Rattle.iac.specs.Contents.{stored, with_word}
 use Rattle.iac.specs.Held.{held}
 use Rattle.iac.specs.declared.registers.Register.{Register}
-use Rattle.iac.specs.declared.registers.Register.TheVariants.{Ier, Isr, Icr, Iisr, Unknown}
+use Rattle.iac.specs.declared.registers.Register.TheVariants.{Ier, Isr, Icr, Iisr}
 use Rattle.iac.specs.declared.contents.Iac.{Iac}
-use Rattle.iac.specs.declared.port.Accessed.{Accessed}
 use Rattle.iac.specs.declared.port.Seen.{Seen}
 
 -- a read gives the named bits, and those that read 1 whatever is stored
@@ -29,9 +29,8 @@ word_written (Ier x) old value = merged 32 old value (iisr x)
 word_written (Isr x) old value = old
 word_written (Icr x) old value = word 32 (λ i. bit old i && not (bit (iisr x) i && bit value i))
 word_written (Iisr x) old value = old
-word_written Unknown old value = old
 
--- the checks, in their order
+-- the checks of an access to a register, in their order
 unfoldable pub checks_of : Row → Request → Checks
 checks_of row q =
     record {
@@ -39,7 +38,7 @@ checks_of row q =
       aligned = eqb (q.offset % 4) 0;
       inside = true;
       fetchless = true;
-      known = row.known;
+      known = true;
       allowed = not row.guarded || q.secure && q.privileged;
       direction = cond q.write row.writable row.readable;
       unlocked = true;
@@ -52,12 +51,11 @@ answer_of row old q = answered (checks_of row q) (gives q (read_of row old))
 unfoldable pub read_answer : Row → ℕ → Request → Answer
 read_answer row old q =
     unless (eqb (q.offset % 4) 0) (Rejected Misaligned)
-    (unless row.known (Rejected NoRegister)
     (unless (not row.guarded || q.secure && q.privileged) (Refused 0)
-    (unless row.readable (Rejected NoRegister) (Done (read_of row old)))))
+    (unless row.readable (Rejected NoRegister) (Done (read_of row old))))
 
 -- what an access needs of the IAC, by value: what code goes by
-unfoldable pub accessed : Register → Row → Seen → Request → Accessed
+unfoldable pub accessed : Register → Row → Seen → Request → Accessed Seen
 accessed reg row v q =
     let a = answer_of row v.word q in
     record { next = left a v (cond q.write (record { word = word_written reg v.word q.value }) v) v; answer = a }
@@ -70,8 +68,12 @@ pub record Stepped : Type 0 where
   pub next : Iac
   pub answer : Answer
 
-unfoldable pub stepped : Iac → Request → Stepped
-stepped s q =
-    let reg = register_at q.offset in
+-- where the offset is no register's, and where it is a register's
+unfoldable pub stepped_at : Option Register → Iac → Request → Stepped
+stepped_at None s q = record { next = s; answer = no_register q.offset }
+stepped_at (Some reg) s q =
     let a = answer_of (row_of reg) (stored s reg) q in
     record { next = left a s (written s reg q) s; answer = a }
+
+abbrev pub stepped : Iac → Request → Stepped
+stepped s q = stepped_at (register_at q.offset) s q

@@ -1,3 +1,5 @@
+#![tactic(auto, unfolding(crate::specs::Contents::reset))]
+
 ghost use Rattle.std.specs.Prelude.{◌≡◌};
 ghost use Rattle.iac.specs.Contents.{reset};
 

@@ -1,3 +1,5 @@
+#![tactic(auto, unfolding(crate::specs::Held::with_count))]
+
 // The interrupt line and the count of flags set and enabled, as they are kept.
 ghost use Rattle.std.specs.Prelude.{◌≡◌};
 ghost use Rattle.iac.specs.Held.{fresh_of, with_count};

@@ -1,21 +1,16 @@
+#![tactic(auto, unfolding(crate::specs::Port::accessed, crate::specs::Port::read_answer, crate::specs::Port::read_of, crate::specs::Port::word_written))]
+
 ghost use Rattle.std.specs.Prelude.{◌&&◌, ◌||◌, not, ◌≡◌};
-ghost use Rattle.iac.specs.Port.{accessed, read_answer, word_written};
+ghost use Rattle.iac.specs.Port.{accessed, answer_of, read_answer, word_written};
 
 use crate::Register;
 use crate::registers::{Row, iisr};
-use access::{Answer, Request, Why};
+use access::{Accessed, Answer, Checks, PASSED, Request, Why};
 
 // What an access to a register needs of the IAC, by value: the register's own word, for ICR the word of ISR.
 #[derive(Clone, Copy)]
 pub struct Seen {
     pub word: u32,
-}
-
-// What an access leaves, and the answer.
-#[derive(Clone, Copy)]
-pub struct Accessed {
-    pub next: Seen,
-    pub answer: Answer,
 }
 
 // The word that a write leaves. IER bits with no IISR bit take no write; writing 1 to ICR clears the flag.
@@ -27,7 +22,6 @@ fn word_written(reg: Register, old: u32, value: u32) -> u32
         Register::Isr(_) => old,
         Register::Icr(x) => words::without(old, words::masked(value, iisr(x))),
         Register::Iisr(_) => old,
-        Register::Unknown => old,
     }
 }
 
@@ -46,9 +40,6 @@ impl Row {
         if q.offset % 4 != 0 {
             return Answer::Rejected(Why::Misaligned);
         }
-        if !self.known {
-            return Answer::Rejected(Why::NoRegister);
-        }
         if !self.admits(q) {
             return Answer::Refused(0);
         }
@@ -60,33 +51,32 @@ impl Row {
 }
 
 impl Seen {
-    // All as it was, with an answer.
-    fn left(self, answer: Answer) -> Accessed
-        ensures { result ≡ record { next = self; answer = answer } }
+    // The answer to an access to a register with this row.
+    fn answer(self, row: Row, q: Request) -> Answer
+        ensures { result ≡ answer_of row self.word q }
     {
-        Accessed { next: self, answer }
+        if !q.write {
+            return row.read(self.word, q);
+        }
+        let write = Checks {
+            aligned: q.offset % 4 == 0,
+            allowed: row.admits(q),
+            direction: row.writable,
+            ..PASSED
+        };
+        write.answer(0)
     }
 
     // An access to a register with this row. A write that is done leaves another word.
-    pub fn access(mut self, reg: Register, row: Row, q: Request) -> Accessed
+    pub fn access(mut self, reg: Register, row: Row, q: Request) -> Accessed<Seen>
         ensures { result ≡ accessed reg row self q }
     {
-        if !q.write {
-            return self.left(row.read(self.word, q));
+        let answer = self.answer(row, q);
+        if q.write
+            && let Answer::Done(_) = answer
+        {
+            self.word = word_written(reg, self.word, q.value);
         }
-        if q.offset % 4 != 0 {
-            return self.left(Answer::Rejected(Why::Misaligned));
-        }
-        if !row.known {
-            return self.left(Answer::Rejected(Why::NoRegister));
-        }
-        if !row.admits(q) {
-            return self.left(Answer::Refused(0));
-        }
-        if !row.writable {
-            return self.left(Answer::Rejected(Why::NoRegister));
-        }
-        self.word = word_written(reg, self.word, q.value);
-        self.left(Answer::Done(0))
+        Accessed { next: self, answer }
     }
 }

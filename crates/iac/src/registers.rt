@@ -1,3 +1,5 @@
+#![tactic(auto, unfolding(crate::specs::Registers::iisr, crate::specs::Registers::register_at, crate::specs::Registers::row_of))]
+
 ghost use Rattle.std.specs.Prelude.{◌≡◌};
 ghost use Rattle.iac.specs.Registers.{iisr, register_at, row, row_of};
 
@@ -8,13 +10,11 @@ pub enum Register {
     Isr(usize),
     Icr(usize),
     Iisr(usize),
-    Unknown,
 }
 
 // A register's row of the table: all that is fixed of it.
 #[derive(Clone, Copy)]
 pub struct Row {
-    pub known: bool,
     // Not write-only.
     pub readable: bool,
     // Not read-only.
@@ -44,31 +44,23 @@ pub(crate) fn iisr(x: usize) -> u32
 }
 
 // The register at an offset that is a multiple of 4.
-pub fn register_at(offset: u32) -> Register
+pub fn register_at(offset: u32) -> Option<Register>
     ensures { result ≡ register_at offset }
 {
-    match offset {
+    Some(match offset {
         0x000..=0x017 => Register::Ier((offset / 4) as usize),
         0x080..=0x097 => Register::Isr(((offset - 0x080) / 4) as usize),
         0x100..=0x117 => Register::Icr(((offset - 0x100) / 4) as usize),
         0x36c..=0x383 => Register::Iisr(((offset - 0x36c) / 4) as usize),
-        _ => Register::Unknown,
-    }
+        _ => return None,
+    })
 }
 
 impl Row {
-    fn of(
-        known: bool,
-        readable: bool,
-        writable: bool,
-        guarded: bool,
-        fixed: u32,
-        named: u32,
-    ) -> Self
-        ensures { result ≡ row known readable writable guarded fixed named }
+    fn of(readable: bool, writable: bool, guarded: bool, fixed: u32, named: u32) -> Self
+        ensures { result ≡ row readable writable guarded fixed named }
     {
         Row {
-            known,
             readable,
             writable,
             guarded,
@@ -79,16 +71,15 @@ impl Row {
 }
 
 impl Register {
-    // The table of registers. In the order of the columns: known, readable, writable, guarded, bits that read 1, named bits.
+    // The table of registers. In the order of the columns: readable, writable, guarded, bits that read 1, named bits.
     pub fn row(self) -> Row
         ensures { result ≡ row_of self }
     {
         match self {
-            Register::Ier(x) => Row::of(true, true, true, true, 0, iisr(x)),
-            Register::Isr(x) => Row::of(true, true, false, true, 0, iisr(x)),
-            Register::Icr(x) => Row::of(true, false, true, true, 0, iisr(x)),
-            Register::Iisr(x) => Row::of(true, true, false, false, iisr(x), 0),
-            Register::Unknown => Row::of(false, false, false, true, 0, 0),
+            Register::Ier(x) => Row::of(true, true, true, 0, iisr(x)),
+            Register::Isr(x) => Row::of(true, false, true, 0, iisr(x)),
+            Register::Icr(x) => Row::of(false, true, true, 0, iisr(x)),
+            Register::Iisr(x) => Row::of(true, false, false, iisr(x), 0),
         }
     }
 }

@@ -5,6 +5,7 @@ use Prim.Native.Nat.{ℕ, ◌<◌}
 use native.Mathlib.Omega.{arith}
 use lib.Dec.{eqb, leb, lit<}
 use lib.Seq.{set-get_or}
+use Rattle.std.specs.Prelude.{Option, Some, None}
 use borrow.Author.Tests.{leb-true}
 use Rattle.words.specs.Bit.{bit, field, masked}
 use Rattle.words.proofs.Alike.{Within, Kept, Same, within-not, within-masked, kept_refl, same_refl, kept_word, same_word, same-masked, Each, each-get, each_set}
@@ -16,14 +17,14 @@ use Rattle.access.specs.declared.answer.Answer.TheVariants.{Done, Refused, Rejec
 use Rattle.access.specs.declared.request.Request.{Request}
 use Rattle.rifsc.specs.Contents.{stored, with_stored, is_locked, seen}
 use Rattle.rifsc.specs.Masters.{masters}
-use Rattle.rifsc.specs.Port.{read_of, attr_bits, takes, word_written, checks_of, answer_of, written, stepped}
+use Rattle.rifsc.specs.Port.{read_of, attr_bits, takes, word_written, checks_of, answer_of, written, stepped_at, stepped}
 use Rattle.rifsc.specs.Registers.{register_at, row_of}
 use Rattle.rifsc.specs.declared.contents.Rifsc.{Rifsc}
 use Rattle.rifsc.specs.declared.port.Seen.{Seen}
 use Rattle.rifsc.specs.declared.registers.Lock.{Lock}
 use Rattle.rifsc.specs.declared.registers.Lock.TheVariants.{Glock, RimcLock, Never}
 use Rattle.rifsc.specs.declared.registers.Register.{Register}
-use Rattle.rifsc.specs.declared.registers.Register.TheVariants.{Cr, Seccfgr, Privcfgr, Rcfglockr, Rimccr, Attr, Ppsr, Unknown}
+use Rattle.rifsc.specs.declared.registers.Register.TheVariants.{Cr, Seccfgr, Privcfgr, Rcfglockr, Rimccr, Attr, Ppsr}
 
 -- ---- compared word by word
 
@@ -45,7 +46,6 @@ module _ {R : ℕ → ℕ → ℕ → Type 0} {M r r' : Rifsc} (z : R 0 0 0) (a 
   stored-alike Rimccr = a.rimccr
   stored-alike (Attr m) = each-get a.attr z m
   stored-alike (Ppsr x) = z
-  stored-alike Unknown = z
 
   with-alike : {v v' : ℕ} (reg : Register) → R (stored M reg) v v' → Alike R M (with_stored r reg v) (with_stored r' reg v')
   unfolding stored with_stored
@@ -60,7 +60,6 @@ module _ {R : ℕ → ℕ → ℕ → Type 0} {M r r' : Rifsc} (z : R 0 0 0) (a 
   with-alike (Attr m) e =
       record { cr = a.cr; seccfgr = a.seccfgr; privcfgr = a.privcfgr; rcfglockr = a.rcfglockr; rimccr = a.rimccr; attr = each_set a.attr m 0 e }
   with-alike (Ppsr x) e = a
-  with-alike Unknown e = a
 
 -- what is stored for a register, stored again
 stored-again : (r : Rifsc) (reg : Register) → with_stored r reg (stored r reg) ≡ r
@@ -72,7 +71,6 @@ stored-again r (Rcfglockr x) = rw (set-get_or r.rcfglockr x 0)
 stored-again r Rimccr = refl
 stored-again r (Attr m) = rw (set-get_or r.attr m 0)
 stored-again r (Ppsr x) = refl
-stored-again r Unknown = refl
 
 -- the register is one there is
 abbrev pub Placed : Register → Type 0
@@ -83,9 +81,13 @@ Placed (Rcfglockr x) = Unit {0}
 Placed Rimccr = Unit {0}
 Placed (Attr m) = m < masters
 Placed (Ppsr x) = Unit {0}
-Placed Unknown = Unit {0}
 
-pub register-placed : (o : ℕ) → Placed (register_at o)
+-- where there is one
+abbrev pub PlacedAt : Option Register → Type 0
+PlacedAt None = Unit {0}
+PlacedAt (Some reg) = Placed reg
+
+pub register-placed : (o : ℕ) → PlacedAt (register_at o)
 unfolding register_at
 register-placed o =
     go (eqb o 0x000) _ _ (λ e. tt)
@@ -96,7 +98,7 @@ register-placed o =
     (go (within 0xc10 0xc43 o) _ _ (λ e. omega (arith, leb-true o 0xc43 (last (leb 0xc10 o) (leb o 0xc43) e)))
     (go (within 0xfb0 0xfc7 o) _ _ (λ e. tt) tt))))))
   where
-    go : (c : Bool) (a b : Register) → (c ≡ true → Placed a) → Placed b → Placed (cond c a b)
+    go : (c : Bool) (a b : Option Register) → (c ≡ true → PlacedAt a) → PlacedAt b → PlacedAt (cond c a b)
     go true a b p q = p refl
     go false a b p q = q
 
@@ -132,7 +134,6 @@ takes_none Rimccr v value secure j l h =
     (within-not 0x0000_0001 0x0000_0701 (within-masked 0x0000_0001 0x0000_0701 refl) j l h)
 takes_none (Attr m) v value secure j l h = within-not (attr_bits value) 0x0000_0370 (attr-within value) j l h
 takes_none (Ppsr x) v value secure j l h = refl
-takes_none Unknown v value secure j l h = refl
 
 -- ---- an access changes named bits alone
 
@@ -155,17 +156,20 @@ module _ {M r : Rifsc} (has : Has M) (own : Alike Kept M r r) where
       (takes_none reg (seen_of r reg) value secure j l (within-not (row_of reg).named (stored M reg) (has reg placed) j l h)))
 
   pub stepped_kept : (q : Request) → Alike Kept M (stepped r q).next r
-  unfolding stepped written
-  stepped_kept q = go (stepped r q).answer q.write
+  unfolding stepped_at written
+  stepped_kept q = at (register_at q.offset) (register-placed q.offset)
     where
-      go : (a : Answer) (w : Bool) → Alike Kept M (leaves a w r (register_at q.offset) q) r
-      go (Done v) true =
-          subst (Alike Kept M (with_stored r (register_at q.offset) _)) (stored-again r (register_at q.offset))
-          (with-alike (kept_refl 0 0) own (register_at q.offset)
-          (word_kept (register_at q.offset) (register-placed q.offset) q.value q.secure))
-      go (Done v) false = own
-      go (Refused v) w = own
-      go (Rejected why) w = own
+      go : (reg : Register) → Placed reg → (a : Answer) (w : Bool) → Alike Kept M (leaves a w r reg q) r
+      go reg placed (Done v) true =
+          subst (Alike Kept M (with_stored r reg _)) (stored-again r reg)
+          (with-alike (kept_refl 0 0) own reg (word_kept reg placed q.value q.secure))
+      go reg placed (Done v) false = own
+      go reg placed (Refused v) w = own
+      go reg placed (Rejected why) w = own
+
+      at : (o : Option Register) → PlacedAt o → Alike Kept M (stepped_at o r q).next r
+      at None placed = own
+      at (Some reg) placed = go reg placed (stepped_at (Some reg) r q).answer q.write
 
 -- ---- it reads named bits alone, and leaves them alike where they were
 
@@ -182,14 +186,10 @@ module _ {M r r' : Rifsc} (has : Has M) (same : Alike Same M r r') where
   locked-same RimcLock = bit-same Rimccr tt 0 (lit< tt) refl
   locked-same Never = refl
 
-  answer-same : (q : Request) → (stepped r q).answer ≡ (stepped r' q).answer
-  unfolding stepped answer_of checks_of read_of seen
-  answer-same q =
-      let reg = register_at q.offset in
-      rw (
-        locked-same (row_of reg).lock,
-        same-masked (row_of reg).named (stored M reg) _ _ (has reg (register-placed q.offset)) (stored_same reg),
-      )
+  answer-same : (reg : Register) → Placed reg → (q : Request) → (stepped_at (Some reg) r q).answer ≡ (stepped_at (Some reg) r' q).answer
+  unfolding stepped_at answer_of checks_of read_of seen
+  answer-same reg placed q =
+      rw (locked-same (row_of reg).lock, same-masked (row_of reg).named (stored M reg) _ _ (has reg placed) (stored_same reg))
 
   -- a named bit is taken of both or of none
   takes_same : (reg : Register) (value : ℕ) (secure : Bool) (j : ℕ) → j < 32 → bit (row_of reg).named j ≡ true
@@ -202,7 +202,6 @@ module _ {M r r' : Rifsc} (has : Has M) (same : Alike Same M r r') where
   takes_same Rimccr value secure j l h = refl
   takes_same (Attr m) value secure j l h = refl
   takes_same (Ppsr x) value secure j l h = refl
-  takes_same Unknown value secure j l h = refl
 
   word_same : (reg : Register) (value : ℕ) (secure : Bool)
       → Same (stored M reg) (word_written reg (row_of reg) (seen_of r reg) value secure) (word_written reg (row_of reg) (seen_of r' reg) value secure)
@@ -217,13 +216,16 @@ module _ {M r r' : Rifsc} (has : Has M) (same : Alike Same M r r') where
       either j l false e = takes_none reg (seen_of r reg) value secure j l e ∙ sym (takes_none reg (seen_of r' reg) value secure j l e)
 
   pub stepped_same : (q : Request) → ((stepped r q).answer ≡ (stepped r' q).answer) × Alike Same M (stepped r q).next (stepped r' q).next
-  unfolding stepped written
-  stepped_same q = let e = answer-same q in (e, rw e (go (stepped r' q).answer q.write))
+  unfolding stepped_at written
+  stepped_same q = at (register_at q.offset) (register-placed q.offset)
     where
-      go : (a : Answer) (w : Bool) → Alike Same M (leaves a w r (register_at q.offset) q) (leaves a w r' (register_at q.offset) q)
-      go (Done v) true =
-          let reg = register_at q.offset in
-          with-alike (same_refl 0 0) same reg (word_same reg q.value q.secure)
-      go (Done v) false = same
-      go (Refused v) w = same
-      go (Rejected why) w = same
+      go : (reg : Register) (a : Answer) (w : Bool) → Alike Same M (leaves a w r reg q) (leaves a w r' reg q)
+      go reg (Done v) true = with-alike (same_refl 0 0) same reg (word_same reg q.value q.secure)
+      go reg (Done v) false = same
+      go reg (Refused v) w = same
+      go reg (Rejected why) w = same
+
+      at : (o : Option Register) → PlacedAt o
+          → ((stepped_at o r q).answer ≡ (stepped_at o r' q).answer) × Alike Same M (stepped_at o r q).next (stepped_at o r' q).next
+      at None placed = (refl, same)
+      at (Some reg) placed = let e = answer-same reg placed q in (e, rw e (go reg (stepped_at (Some reg) r' q).answer q.write))

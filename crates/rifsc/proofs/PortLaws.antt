@@ -1,21 +1,16 @@
 -- The bits that a write takes, as the code makes them, and the answer to a read.
 use mathlib.Core.Bool.{Bool, true, false, not, ◌&&◌, ◌||◌, cond, and-true}
 use mathlib.Core.Path.{◌≡◌, refl, sym, ◌∙◌}
-use Prim.Native.Nat.{ℕ, ◌%◌}
+use Prim.Native.Nat.{ℕ}
 use lib.Dec.{eqb}
-use Rattle.words.specs.Bit.{bit, word, field, masked, less, merged, united}
+use Rattle.words.specs.Bit.{bit, word, field, masked, less, united}
 use Rattle.words.proofs.Laws.{bit-less, less-lt, word-ext}
-use Rattle.words.proofs.Masks.{merged-word, united-masked}
-use Rattle.access.specs.Answer.{left}
+use Rattle.words.proofs.Masks.{united-masked}
 use Rattle.access.specs.Checks.{answered_with, reached_with}
-use Rattle.access.specs.declared.answer.Answer.{Answer}
-use Rattle.access.specs.declared.answer.Answer.TheVariants.{Done, Refused, Rejected}
 use Rattle.access.specs.declared.request.Request.{Request}
-use Rattle.rifsc.specs.Port.{accessed, answer_of, attr_bits, checks_of, read_answer, takes, with_seen_word, word_written}
-use Rattle.rifsc.specs.declared.port.Accessed.{Accessed}
+use Rattle.rifsc.specs.Port.{answer_of, attr_bits, checks_of, read_answer, takes}
 use Rattle.rifsc.specs.declared.port.Seen.{Seen}
 use Rattle.rifsc.specs.declared.registers.Row.{Row}
-use Rattle.rifsc.specs.declared.registers.Register.{Register}
 use Rattle.rifsc.specs.declared.registers.Register.TheVariants.{Privcfgr, Rimccr, Attr}
 
 -- of a PRIV write
@@ -50,31 +45,3 @@ pub read_is : (row : Row) (locked : Bool) (stored : ℕ) (q : Request) → q.wri
     → answer_of row locked stored q ≡ read_answer row stored q.offset
 unfolding answer_of checks_of answered_with reached_with read_answer
 read_is row locked stored q w = rw w refl
-
--- leaves all as it was
-abbrev leaving : Seen → Answer → Accessed
-leaving v a = record { next = v; answer = a }
-
-same : (v : Seen) (a : Answer) → leaving v a ≡ leaving (left a v v v) a
-same v (Done x) = refl
-same v (Refused x) = refl
-same v (Rejected why) = refl
-
-pub read_left : (reg : Register) (row : Row) (v : Seen) (q : Request) → q.write ≡ false
-    → leaving v (read_answer row v.word q.offset) ≡ accessed reg row v q
-unfolding accessed
-read_left reg row v q w = rw (read_is row v.locked v.word q w, w) (same v (read_answer row v.word q.offset))
-
--- ---- a write that passes every test
-
-module _ (reg : Register) (row : Row) (v : Seen) (q : Request) (w : q.write ≡ true) (a : eqb (q.offset % 4) 0 ≡ true)
-    (k : row.known ≡ true) (r : (q.privileged && (q.secure || not row.secure)) ≡ true) (d : row.writable ≡ true)
-    (l : v.locked ≡ false) where
-  done : answer_of row v.locked v.word q ≡ Done 0
-  unfolding answer_of checks_of answered_with reached_with
-  done = simp (w, a, k, r, d, l)
-
-  pub write-left : {x : ℕ} → x ≡ merged 32 v.word q.value (word 32 (takes reg row v q.value q.secure))
-      → leaving (with_seen_word v x) (Done 0) ≡ accessed reg row v q
-  unfolding accessed word_written
-  write-left e = rw (done, w, e, merged-word 32 v.word q.value (takes reg row v q.value q.secure)) refl

@@ -6,7 +6,7 @@ use Rattle.rifsc.specs.Masters.{masters}
 use Rattle.rifsc.specs.declared.registers.Lock.{Lock}
 use Rattle.rifsc.specs.declared.registers.Lock.TheVariants.{Glock, RimcLock, Never}
 use Rattle.rifsc.specs.declared.registers.Register.{Register}
-use Rattle.rifsc.specs.declared.registers.Register.TheVariants.{Cr, Seccfgr, Privcfgr, Rcfglockr, Rimccr, Attr, Ppsr, Unknown}
+use Rattle.rifsc.specs.declared.registers.Register.TheVariants.{Cr, Seccfgr, Privcfgr, Rcfglockr, Rimccr, Attr, Ppsr}
 use Rattle.rifsc.specs.declared.contents.Rifsc.{Rifsc}
 use Rattle.rifsc.specs.declared.port.Seen.{Seen}
 
@@ -19,7 +19,6 @@ stored r (Rcfglockr x) = get_or r.rcfglockr x 0
 stored r Rimccr = r.rimccr
 stored r (Attr m) = get_or r.attr m 0
 stored r (Ppsr x) = 0
-stored r Unknown = 0
 
 -- the controller with another word stored for a register
 unfoldable pub with_stored : Rifsc → Register → ℕ → Rifsc
@@ -78,7 +77,6 @@ with_stored r (Attr m) v =
       attr = set r.attr m v;
     }
 with_stored r (Ppsr x) v = r
-with_stored r Unknown v = r
 
 -- GLOCK of CR, GLOCK of RIMC_CR
 abbrev pub is_locked : Rifsc → Lock → Bool

@@ -1,23 +1,23 @@
 -- A register access to the controller: document 01, "RIFSC".
-use Rattle.std.specs.Prelude.{Bool, true, false, not, ◌&&◌, ◌||◌, cond, ℕ, ◌%◌, eqb}
+use Rattle.std.specs.Prelude.{Bool, true, false, not, ◌&&◌, ◌||◌, cond, ℕ, ◌%◌, eqb, Option, Some, None}
 use Rattle.words.specs.Bit.{bit, word, field, masked, united}
 use Rattle.access.specs.Answer.{left}
-use Rattle.access.specs.Checks.{answered, unless}
+use Rattle.access.specs.Checks.{answered, no_register, unless}
 use Rattle.access.specs.Kind.{debugger}
 use Rattle.access.specs.Request.{gives}
+use Rattle.access.specs.declared.accessed.Accessed.{Accessed}
 use Rattle.access.specs.declared.answer.Answer.{Answer}
 use Rattle.access.specs.declared.answer.Answer.TheVariants.{Done, Rejected}
-use Rattle.access.specs.declared.answer.Why.TheVariants.{Misaligned, NoRegister}
+use Rattle.access.specs.declared.answer.Why.TheVariants.{Misaligned}
 use Rattle.access.specs.declared.checks.Checks.{Checks}
 use Rattle.access.specs.declared.request.Request.{Request}
 use Rattle.rifsc.specs.Registers.{register_at, row_of}
 use Rattle.rifsc.specs.Contents.{with_stored, seen}
 use Rattle.rifsc.specs.declared.registers.Row.{Row}
 use Rattle.rifsc.specs.declared.registers.Register.{Register}
-use Rattle.rifsc.specs.declared.registers.Register.TheVariants.{Cr, Seccfgr, Privcfgr, Rcfglockr, Rimccr, Attr, Ppsr, Unknown}
+use Rattle.rifsc.specs.declared.registers.Register.TheVariants.{Cr, Seccfgr, Privcfgr, Rcfglockr, Rimccr, Attr, Ppsr}
 use Rattle.rifsc.specs.declared.contents.Rifsc.{Rifsc}
 use Rattle.rifsc.specs.declared.port.Seen.{Seen}
-use Rattle.rifsc.specs.declared.port.Accessed.{Accessed}
 
 -- ---- a read gives the named bits, and those that read 1 whatever is stored
 
@@ -42,13 +42,12 @@ takes (Privcfgr x) row v value secure i =
 takes Rimccr row v value secure i = bit 0x0000_0700 i || bit 0x0000_0001 i && bit value i
 takes (Attr m) row v value secure i = bit (attr_bits value) i
 takes (Ppsr x) row v value secure i = false
-takes Unknown row v value secure i = false
 
 unfoldable pub word_written : Register → Row → Seen → ℕ → Bool → ℕ
 word_written reg row v value secure =
     word 32 (λ i. cond (takes reg row v value secure i) (bit value i) (bit v.word i))
 
--- ---- the checks, in their order; any read is allowed, a write needs privileged and, but for PRIVCFGR, secure
+-- ---- the checks of an access to a register, in their order; any read is allowed, a write needs privileged and, but for PRIVCFGR, secure
 
 unfoldable pub checks_of : Row → Bool → Request → Checks
 checks_of row locked q =
@@ -57,7 +56,7 @@ checks_of row locked q =
       aligned = eqb (q.offset % 4) 0;
       inside = true;
       fetchless = true;
-      known = row.known;
+      known = true;
       allowed = not q.write || q.privileged && (q.secure || not row.secure);
       direction = not q.write || row.writable;
       unlocked = not q.write || not locked;
@@ -69,14 +68,14 @@ answer_of row locked stored q = answered (checks_of row locked q) (gives q (read
 -- of a read, by its offset: what code goes by
 unfoldable pub read_answer : Row → ℕ → ℕ → Answer
 read_answer row stored offset =
-    unless (eqb (offset % 4) 0) (Rejected Misaligned) (unless row.known (Rejected NoRegister) (Done (read_of row stored)))
+    unless (eqb (offset % 4) 0) (Rejected Misaligned) (Done (read_of row stored))
 
 -- ---- an access to what it needs of the controller, by value
 
 abbrev pub with_seen_word : Seen → ℕ → Seen
 with_seen_word v w = record { locked = v.locked; rlock = v.rlock; sec = v.sec; word = w }
 
-unfoldable pub accessed : Register → Row → Seen → Request → Accessed
+unfoldable pub accessed : Register → Row → Seen → Request → Accessed Seen
 accessed reg row v q =
     let a = answer_of row v.locked v.word q in
     record {
@@ -93,10 +92,14 @@ pub record Stepped : Type 0 where
   pub next : Rifsc
   pub answer : Answer
 
-unfoldable pub stepped : Rifsc → Request → Stepped
-stepped r q =
-    let reg = register_at q.offset in
+-- where the offset is no register's, and where it is a register's
+unfoldable pub stepped_at : Option Register → Rifsc → Request → Stepped
+stepped_at None r q = record { next = r; answer = no_register q.offset }
+stepped_at (Some reg) r q =
     let row = row_of reg in
     let v = seen r reg row.lock row.index in
     let a = answer_of row v.locked v.word q in
     record { next = left a r (written r reg row v q) r; answer = a }
+
+abbrev pub stepped : Rifsc → Request → Stepped
+stepped r q = stepped_at (register_at q.offset) r q

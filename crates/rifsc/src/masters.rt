@@ -1,3 +1,5 @@
+#![tactic(auto, unfolding(crate::specs::Masters::is_master, crate::specs::Masters::guarding_of, crate::specs::Masters::carried))]
+
 ghost use Rattle.std.specs.Prelude.{◌≡◌};
 ghost use Rattle.rifsc.specs.Masters.{carried, guarding_of, is_master};
 

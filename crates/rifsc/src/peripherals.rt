@@ -1,3 +1,5 @@
+#![tactic(auto, unfolding(crate::specs::Peripherals::exists, crate::specs::Peripherals::grants))]
+
 ghost use Rattle.std.specs.Prelude.{◌≡◌};
 ghost use Rattle.rifsc.specs.Peripherals.{exists, grants};
 

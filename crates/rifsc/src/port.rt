@@ -1,11 +1,13 @@
+#![tactic(auto, unfolding(crate::specs::Port::accessed, crate::specs::Port::read_answer, crate::specs::Port::read_of))]
+
 ghost use Rattle.std.specs.Prelude.{◌≡◌, cond};
 ghost use Rattle.words.specs.Bit.{field, less, word};
-ghost use Rattle.rifsc.specs.Port.{accessed, attr_bits, read_answer, takes};
+ghost use Rattle.rifsc.specs.Port.{accessed, answer_of, attr_bits, read_answer, read_of, takes};
 
 use crate::Register;
 use crate::masters::{MCID_AT, MCID_WIDE};
 use crate::registers::{ATTR_FLAGS, ATTR_NAMED, DAPCID, GLOCK, Row};
-use access::{Answer, DEBUGGER, Request, Why};
+use access::{Accessed, Answer, Checks, DEBUGGER, PASSED, Request, Why};
 
 // What an access to a register needs of the controller, by value.
 #[derive(Clone, Copy)]
@@ -17,13 +19,6 @@ pub struct Seen {
     pub sec: u32,
     // The register's own word.
     pub word: u32,
-}
-
-// What an access leaves, and the answer.
-#[derive(Clone, Copy)]
-pub struct Accessed {
-    pub next: Seen,
-    pub answer: Answer,
 }
 
 // Of some bits those that a write may change: those whose SEC is 1 only if it is secure.
@@ -58,7 +53,6 @@ fn taken(reg: Register, row: Row, v: Seen, value: u32, secure: bool) -> u32
         Register::Rimccr => words::united(DAPCID, words::masked(value, GLOCK)),
         Register::Attr(_) => attr_taken(value),
         Register::Ppsr(_) => 0,
-        Register::Unknown => 0,
     }
 }
 
@@ -70,45 +64,39 @@ impl Row {
         if offset % 4 != 0 {
             return Answer::Rejected(Why::Misaligned);
         }
-        if !self.known {
-            return Answer::Rejected(Why::NoRegister);
-        }
         Answer::Done(words::united(words::masked(word, self.named), self.fixed))
     }
 }
 
 impl Seen {
-    // All as it was, with an answer.
-    fn left(self, answer: Answer) -> Accessed
-        ensures { result ≡ record { next = self; answer = answer } }
+    // The answer to an access to a register with this row.
+    fn answer(self, row: Row, q: Request) -> Answer
+        ensures { result ≡ answer_of row self.locked self.word q }
     {
-        Accessed { next: self, answer }
+        if !q.write {
+            return row.read(self.word, q.offset);
+        }
+        let write = Checks {
+            aligned: q.offset % 4 == 0,
+            allowed: q.privileged & (q.secure | !row.secure),
+            direction: row.writable,
+            unlocked: !self.locked,
+            ..PASSED
+        };
+        write.answer(0)
     }
 
     // An access to a register with this row. A write that is done leaves another word.
-    pub fn access(mut self, reg: Register, row: Row, q: Request) -> Accessed
+    pub fn access(mut self, reg: Register, row: Row, q: Request) -> Accessed<Seen>
         ensures { result ≡ accessed reg row self q }
     {
-        if !q.write {
-            return self.left(row.read(self.word, q.offset));
+        let answer = self.answer(row, q);
+        if q.write
+            && let Answer::Done(_) = answer
+        {
+            let taken = taken(reg, row, self, q.value, q.secure);
+            self.word = words::merge(self.word, q.value, taken);
         }
-        if q.offset % 4 != 0 {
-            return self.left(Answer::Rejected(Why::Misaligned));
-        }
-        if !row.known {
-            return self.left(Answer::Rejected(Why::NoRegister));
-        }
-        if !(q.privileged & (q.secure | !row.secure)) {
-            return self.left(Answer::Refused(0));
-        }
-        if !row.writable {
-            return self.left(Answer::Rejected(Why::NoRegister));
-        }
-        if self.locked {
-            return self.left(Answer::Rejected(Why::Locked));
-        }
-        let taken = taken(reg, row, self, q.value, q.secure);
-        self.word = words::merge(self.word, q.value, taken);
-        self.left(Answer::Done(0))
+        Accessed { next: self, answer }
     }
 }

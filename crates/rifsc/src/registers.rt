@@ -1,3 +1,5 @@
+#![tactic(auto, unfolding(crate::specs::Registers::ppsr, crate::specs::Registers::register_at, crate::specs::Registers::row_of))]
+
 ghost use Rattle.std.specs.Prelude.{◌≡◌};
 ghost use Rattle.rifsc.specs.Registers.{ppsr, register_at, row, row_of};
 
@@ -11,7 +13,6 @@ pub enum Register {
     Rimccr,
     Attr(usize),
     Ppsr(usize),
-    Unknown,
 }
 
 // What stops every write to a register: GLOCK of CR, GLOCK of RIMC_CR, or nothing.
@@ -25,7 +26,6 @@ pub enum Lock {
 // A register's row of the table: all that is fixed of it.
 #[derive(Clone, Copy)]
 pub struct Row {
-    pub known: bool,
     // Not read-only.
     pub writable: bool,
     // A write needs secure; every write needs privileged.
@@ -66,10 +66,10 @@ pub(crate) fn ppsr(x: usize) -> u32
 }
 
 // The register at an offset that is a multiple of 4.
-pub fn register_at(offset: u32) -> Register
+pub fn register_at(offset: u32) -> Option<Register>
     ensures { result ≡ register_at offset }
 {
-    match offset {
+    Some(match offset {
         0x000 => Register::Cr,
         0x010..=0x027 => Register::Seccfgr(((offset - 0x010) / 4) as usize),
         0x030..=0x047 => Register::Privcfgr(((offset - 0x030) / 4) as usize),
@@ -77,17 +77,16 @@ pub fn register_at(offset: u32) -> Register
         0xc00 => Register::Rimccr,
         0xc10..=0xc43 => Register::Attr(((offset - 0xc10) / 4) as usize),
         0xfb0..=0xfc7 => Register::Ppsr(((offset - 0xfb0) / 4) as usize),
-        _ => Register::Unknown,
-    }
+        _ => return None,
+    })
 }
 
 impl Row {
-    // A register that there is, and that can be written.
+    // Of a register that can be written.
     fn of(secure: bool, lock: Lock, index: usize, fixed: u32, named: u32) -> Self
         ensures { result ≡ row secure lock index fixed named }
     {
         Row {
-            known: true,
             writable: true,
             secure,
             lock,
@@ -111,21 +110,11 @@ impl Register {
             Register::Rimccr => Row::of(true, Lock::RimcLock, 0, RIMC_CONSTANT, DAPCID | GLOCK),
             Register::Attr(m) => Row::of(true, Lock::RimcLock, m, 0, ATTR_NAMED),
             Register::Ppsr(x) => Row {
-                known: true,
                 writable: false,
                 secure: true,
                 lock: Lock::Never,
                 index: x,
                 fixed: ppsr(x),
-                named: 0,
-            },
-            Register::Unknown => Row {
-                known: false,
-                writable: false,
-                secure: true,
-                lock: Lock::Never,
-                index: 0,
-                fixed: 0,
                 named: 0,
             },
         }

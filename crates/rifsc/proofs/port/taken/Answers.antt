@@ -28,7 +28,3 @@ returns-in-Attr c = simp (c.attr_taken.ensures, c.in-Attr.is) (attr-taken _ _ _ 
 pub returns-in-Ppsr : goal.returns-in-Ppsr
 unfolding takes
 returns-in-Ppsr c = simp c.in-Ppsr.is
-
-pub returns-in-Unknown : goal.returns-in-Unknown
-unfolding takes
-returns-in-Unknown c = simp c.in-Unknown.is
