@@ -4,6 +4,7 @@ use mathlib.Core.List.{List}
 use mathlib.Core.Path.{◌≡◌}
 use Prim.Native.Nat.{ℕ, ◌^◌, ◌<◌}
 use lib.Dec.{lit<}
+use Rattle.std.specs.Prelude.{Some}
 use Rattle.words.specs.Bit.{bit, masked, united}
 use Rattle.words.proofs.Laws.{word_lt}
 use Rattle.access.specs.Answer.{number_of, value_of}
@@ -118,7 +119,7 @@ applied-few e m = go (sized m)
 
 -- ---- what is printed tells the answer
 
-pub same_line : (e e' : Event) (line line' : ℕ) (m m' : List ℕ) → text_of (AnEvent e) line m ≡ text_of (AnEvent e') line' m'
+pub same_line : (e e' : Event) (line line' : ℕ) (m m' : List ℕ) → text_of (Some (AnEvent e)) line m ≡ text_of (Some (AnEvent e')) line' m'
     → (number_of (applied_answer e m) ≡ number_of (applied_answer e' m')) × (value_of (applied_answer e m) ≡ value_of (applied_answer e' m'))
 unfolding text_of answer_text
 same_line e e' line line' m m' h = answers-same (applied_answer e m) (applied_answer e' m') (applied-few e m) (applied-few e' m') h
