@@ -122,7 +122,7 @@ applied-few e m = go (sized m)
 
 -- ---- what is printed tells the answer
 
-pub same_line : (e e' : Event) (line line' : ℕ) (m m' : List ℕ) → text_of (AnEvent e) line m ≡ text_of (AnEvent e') line' m'
+pub same_line : (e e' : Event) (line line' : ℕ) (m m' : List ℕ) → text_of (Some (AnEvent e)) line m ≡ text_of (Some (AnEvent e')) line' m'
     → (number_of (applied_answer e m) ≡ number_of (applied_answer e' m')) × (value_of (applied_answer e m) ≡ value_of (applied_answer e' m'))
 unfolding text_of answer_text
 same_line e e' line line' m m' h = answers-same (applied_answer e m) (applied_answer e' m') (applied-few e m) (applied-few e' m') h

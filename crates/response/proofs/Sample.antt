@@ -5,6 +5,7 @@ use mathlib.Core.Path.{◌≡◌, refl, ap, ◌∙◌}
 use Prim.Native.Nat.{ℕ}
 use borrow.Author.Tests.{eq-eqb}
 use lib.ListN.{length}
+use Rattle.std.specs.Prelude.{Some}
 use Rattle.access.specs.Checks.{answered_with, reached_with}
 use Rattle.rifsc.specs.Contents.{reset as rifsc-reset}
 use Rattle.iac.specs.Contents.{reset as iac-reset}
@@ -59,7 +60,7 @@ access =
       kind = record { cid = record { 0 = 1 }; write = false; privileged = true; secure = true };
     })
 
-reads : (command_of line1 ≡ AnEvent access) × (command_of line2 ≡ Map (record { 0 = 2 }))
+reads : (command_of line1 ≡ Some (AnEvent access)) × (command_of line2 ≡ Some (Map (record { 0 = 2 })))
 unfolding command_of by_keyword lines_of reset_line blocks_of request_fields peripheral_line memory_line master_line map_line rights_fields target_fields fields_of onto same every value_from hex_of decimal_of either_of operation_of
 reads = (refl, refl)
 
@@ -74,13 +75,13 @@ started m h = rw (eq-eqb (length m) state_words h)
 
 -- ---- the access is granted, and leaves the memory as it was
 
-first : (text_of (AnEvent access) 1 start ≡ text1) × (left_by (AnEvent access) start ≡ start)
+first : (text_of (Some (AnEvent access)) 1 start ≡ text1) × (left_by (Some (AnEvent access)) start ≡ start)
 unfolding text_of left_by answer_text answer_line digits_of width_in width_of decimal_text applied_answer applied_state layout joined parts_of state_of reset_state rifsc-reset iac-reset reset step memory_step memory_stepped memory_answer memory_checks answered_with reached_with shape_in shape_of guard_of with_guard decided tests
 first = (refl, refl)
 
 -- ---- the map's text is its sheet, whose rows a sweep computes (rows-swept)
 
-asked : text_of (Map (record { 0 = 2 })) 2 start ≡ sheet 2 (rows_of (state_of start) 2)
+asked : text_of (Some (Map (record { 0 = 2 }))) 2 start ≡ sheet 2 (rows_of (state_of start) 2)
 unfolding text_of map_text layout joined reset_state rifsc-reset iac-reset reset shape_in shape_of
 asked = refl
 
@@ -90,7 +91,7 @@ swept : sheet 2
 unfolding sheet span_lines label_line span_line digits_of width_in width_of decimal_text size swept_map sweep_from next_of bounds_of join pairs_of rights_of rights_word decided tests layout joined parts_of state_of reset_state rifsc-reset iac-reset reset shape_in shape_of guard_of
 swept = refl
 
-second : text_of (Map (record { 0 = 2 })) 2 start ≡ text2
+second : text_of (Some (Map (record { 0 = 2 }))) 2 start ≡ text2
 second = asked ∙ ap (sheet 2) (rows-swept (state_of start) 2) ∙ swept
 
 -- ---- Whatever the lent memory held: reset, then line 1 and line 2, print the four lines.

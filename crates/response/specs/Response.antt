@@ -1,6 +1,6 @@
 -- What a line does and prints: document 01, "Each event prints `ans`, number, value in 8 hex digits; a done `map` prints only its sheet, ..
 -- Any other line prints `bad` and its line number and changes nothing."
-use Rattle.std.specs.Prelude.{Bool, cond, List, ℕ, ◌+◌, leb, length}
+use Rattle.std.specs.Prelude.{Bool, cond, List, ℕ, ◌+◌, leb, length, Option, Some, None}
 use Rattle.access.specs.Answer.{number_of, value_of}
 use Rattle.access.specs.declared.answer.Answer.{Answer}
 use Rattle.access.specs.declared.answer.Answer.TheVariants.{Rejected}
@@ -13,7 +13,7 @@ use Rattle.script.specs.Command.{command_of}
 use Rattle.print.specs.Print.{answer_line, bad_line}
 use Rattle.print.specs.Writing.{over}
 use Rattle.script.specs.declared.command.Command.{Command}
-use Rattle.script.specs.declared.command.Command.TheVariants.{Event, Map, Bad}
+use Rattle.script.specs.declared.command.Command.TheVariants.{Event, Map}
 use Rattle.response.specs.Sheet.{sheet}
 
 unfoldable pub answer_text : Answer → List ℕ
@@ -23,19 +23,19 @@ answer_text a = answer_line (number_of a) (value_of a)
 unfoldable pub map_text : List ℕ → ℕ → List ℕ
 map_text m n = cond (sized m) (cond (is_guard n) (sheet n (rows_of (state_of m) n)) (answer_text (Rejected NoSuch))) (answer_text (Rejected WrongLength))
 
--- ---- a command on the words m
+-- ---- a line's command, or none, on the words m
 
 -- what it prints, as the line with that number
-unfoldable pub text_of : Command → ℕ → List ℕ → List ℕ
-text_of (Event e) number m = answer_text (applied_answer e m)
-text_of (Map n) number m = map_text m n.0
-text_of Bad number m = bad_line number
+unfoldable pub text_of : Option Command → ℕ → List ℕ → List ℕ
+text_of (Some (Event e)) number m = answer_text (applied_answer e m)
+text_of (Some (Map n)) number m = map_text m n.0
+text_of None number m = bad_line number
 
 -- what it leaves
-unfoldable pub left_by : Command → List ℕ → List ℕ
-left_by (Event e) m = applied_state e m
-left_by (Map n) m = m
-left_by Bad m = m
+unfoldable pub left_by : Option Command → List ℕ → List ℕ
+left_by (Some (Event e)) m = applied_state e m
+left_by (Some (Map n)) m = m
+left_by None m = m
 
 -- ---- a line, printed at a place of a buffer; without room_for_longest for the longest text nothing is done
 

@@ -8,21 +8,19 @@ use borrow.Author.Tests.{ne_eqb, eqb-true, eqb-false}
 use lib.Dec.{eqb}
 use lib.ListN.{length, take, drop, length-drop}
 use lib.Seq.{length-take-le}
+use Rattle.std.specs.Prelude.{Option, Some, None}
 use Rattle.script.specs.Fields.{tab, same}
 use Rattle.script.specs.Numbers.{is_hex, every, hex_of, either_of, operation_of}
 use Rattle.script.specs.Places.{field_from, ends_at}
-use Rattle.script.specs.declared.numbers.Number.TheVariants.{NoNumber}
-use Rattle.script.specs.declared.numbers.Choice.TheVariants.{Neither}
-use Rattle.script.specs.declared.numbers.Action.TheVariants.{NoAction}
 use Rattle.script.proofs.Places.{Field, field, field-bytes, field_of, no_tabs, some-there}
 use Rattle.script.proofs.Same.{no-letter}
 
-pub record Fixed {R : Type 0} (n : ℕ) (read : List ℕ → R) (bad : R) : Type 0 where
+pub record Fixed {R : Type 0} (n : ℕ) (read : List ℕ → Option R) : Type 0 where
   pub some : 0 < n
-  pub long : (s : List ℕ) → (length s ≡ n → ⊥) → read s ≡ bad
-  pub tabs : (s : List ℕ) → no_tabs s ≡ false → read s ≡ bad
+  pub long : (s : List ℕ) → (length s ≡ n → ⊥) → read s ≡ None
+  pub tabs : (s : List ℕ) → no_tabs s ≡ false → read s ≡ None
 
-module _ {R : Type 0} {n : ℕ} {read : List ℕ → R} {bad : R} (fixed : Fixed n read bad) (line : List ℕ) (p : ℕ) where
+module _ {R : Type 0} {n : ℕ} {read : List ℕ → Option R} (fixed : Fixed n read) (line : List ℕ) (p : ℕ) where
   -- a field of n bytes is the n bytes there
   sized : length (field_from line p) ≡ n → Field line p n
   sized e = rw e at (field line p (some-there line p (omega (arith, fixed.some))))
@@ -35,7 +33,7 @@ module _ {R : Type 0} {n : ℕ} {read : List ℕ → R} {bad : R} (fixed : Fixed
           let f = field_of n line p h t in
           ap length (field-bytes line p n f) ∙ length-take-le n (drop p line) (omega (arith, length-drop p line, f.within))
 
-      plain : (t : Bool) → no_tabs (take n (drop p line)) ≡ t → (length (field_from line p) ≡ n → ⊥) → read (take n (drop p line)) ≡ bad
+      plain : (t : Bool) → no_tabs (take n (drop p line)) ≡ t → (length (field_from line p) ≡ n → ⊥) → read (take n (drop p line)) ≡ None
       plain true e k = absurd (k (bytes e))
       plain false e k = fixed.tabs (take n (drop p line)) e
 
@@ -45,15 +43,15 @@ module _ {R : Type 0} {n : ℕ} {read : List ℕ → R} {bad : R} (fixed : Fixed
           let k = eqb-false (length (field_from line p)) n e in
           plain (no_tabs (take n (drop p line))) refl k ∙ sym (fixed.long (field_from line p) k)
 
-  pub not_there : ends_at line (p + n) ≡ false → bad ≡ read (field_from line p)
+  pub not_there : ends_at line (p + n) ≡ false → None ≡ read (field_from line p)
   not_there h = sym (fixed.long (field_from line p) λ e. true≢false (sym (sized e).ends ∙ h))
 
-  pub its-length : (read (field_from line p) ≡ bad → ⊥) → length (field_from line p) ≡ n
-  its-length k = go (eqb (length (field_from line p)) n) refl
+  pub its-length : {v : R} → read (field_from line p) ≡ Some v → length (field_from line p) ≡ n
+  its-length e = go (eqb (length (field_from line p)) n) refl
     where
       go : (t : Bool) → eqb (length (field_from line p)) n ≡ t → length (field_from line p) ≡ n
-      go true e = eqb-true (length (field_from line p)) n e
-      go false e = absurd (k (fixed.long (field_from line p) (eqb-false (length (field_from line p)) n e)))
+      go true k = eqb-true (length (field_from line p)) n k
+      go false k = let b = fixed.long (field_from line p) (eqb-false (length (field_from line p)) n k) in cc
 
 -- ---- the readers
 
@@ -67,7 +65,7 @@ hex-tabs (b ∷ s) h = go (eqb b tab) refl (hex-tabs s) h
     go true e f k = rw (eqb-true b tab e)
     go false e f k = rw (f k) (and-false (is_hex b))
 
-pub hex-fixed : Fixed 8 hex_of NoNumber
+pub hex-fixed : Fixed 8 hex_of
 unfolding hex_of
 hex-fixed =
     record {
@@ -87,7 +85,7 @@ letter-tabs (a ∷ []) b l h = go (eqb a tab) refl h
     go false e k = absurd (true≢false k)
 letter-tabs (a ∷ c ∷ s) b l h = and-false (eqb a b)
 
-pub either-fixed : (this that : ℕ) → tab < this → tab < that → Fixed 1 (either_of this that) Neither
+pub either-fixed : (this that : ℕ) → tab < this → tab < that → Fixed 1 (either_of this that)
 unfolding either_of
 either-fixed this that l m =
     record {
@@ -96,7 +94,7 @@ either-fixed this that l m =
       tabs = λ s h. rw (letter-tabs s this l h, letter-tabs s that m h);
     }
 
-pub operation-fixed : Fixed 1 operation_of NoAction
+pub operation-fixed : Fixed 1 operation_of
 unfolding operation_of
 operation-fixed =
     record {

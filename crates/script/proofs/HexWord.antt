@@ -11,9 +11,9 @@ use lib.Dec.{eqb, ltb, lit<}
 use lib.ListN.{length, get_or, take, drop}
 use lib.Seq.{drop-cons}
 use Rattle.access.specs.Fold.{all}
+use Rattle.std.specs.Prelude.{Some, None}
 use Rattle.script.specs.Numbers.{is_hex, digit, every, value_from, hex_of}
 use Rattle.script.specs.Places.{four_at}
-use Rattle.script.specs.declared.numbers.Number.TheVariants.{Value, NoNumber}
 use Rattle.script.proofs.Gathered.{lower_bytes, lower_pairs, gathered}
 use Rattle.script.proofs.Told.{both_true}
 use Rattle.script.proofs.Packed.{packed, Bytes, packed-same, packed-and, packed-add, packed-mul, packed-eqb}
@@ -178,11 +178,11 @@ module _ (a b c d e f g h : ℕ) (bytes : Bytes (a ∷ b ∷ c ∷ d ∷ e ∷ f
       (ap (λ (x : ℕ). packed value 0 bs + 48 * each + 39 * x) (tens-are bs bytes) ∙ shown-are bs bytes)
       ∙ good-are bs bytes
 
-  pub hex-not-low : (bit_and (digits_in text) (240 * each) ≡ 0 → ⊥) → NoNumber ≡ hex_of bs
+  pub hex-not-low : (bit_and (digits_in text) (240 * each) ≡ 0 → ⊥) → None ≡ hex_of bs
   unfolding hex_of
   hex-not-low k = rw (every-hex bs bytes, sym low-test, ne_eqb (bit_and (digits_in text) (240 * each)) 0 k)
 
-  pub hex-not-good : (shown_in (digits_in text) ≡ text → ⊥) → NoNumber ≡ hex_of bs
+  pub hex-not-good : (shown_in (digits_in text) ≡ text → ⊥) → None ≡ hex_of bs
   unfolding hex_of
   hex-not-good k = rw (every-hex bs bytes, sym good-test, ne_eqb (shown_in (digits_in text)) text k, and-false (every low bs))
 
@@ -192,7 +192,7 @@ module _ (a b c d e f g h : ℕ) (bytes : Bytes (a ∷ b ∷ c ∷ d ∷ e ∷ f
       ∙ ap₂ ◌&&◌ (sym low-test ∙ eq-eqb (bit_and (digits_in text) (240 * each)) 0 k) (sym good-test ∙ eq-eqb (shown_in (digits_in text)) text l)
 
   pub hex-value : every is_hex bs ≡ true → (pairs fours : ℕ) → pairs ≡ bit_and (digits_in text + digits_in text / 2 ^ 4) lower_bytes
-      → fours ≡ bit_and (pairs + pairs / 2 ^ 8) lower_pairs → Value ((fours + fours / 2 ^ 16) % 4294967296) ≡ hex_of bs
+      → fours ≡ bit_and (pairs + pairs / 2 ^ 8) lower_pairs → Some ((fours + fours / 2 ^ 16) % 4294967296) ≡ hex_of bs
   unfolding hex_of every value_from
   hex-value k pairs fours ep ef =
       let k0 = both_true (is_hex a) _ k in
@@ -211,7 +211,7 @@ module _ (a b c d e f g h : ℕ) (bytes : Bytes (a ∷ b ∷ c ∷ d ∷ e ∷ f
       let d5 = digit-byte f bytes.1.1.1.1.1.0 k5.0 in
       let d6 = digit-byte g bytes.1.1.1.1.1.1.0 k6.0 in
       let d7 = digit-byte h bytes.1.1.1.1.1.1.1.0 k7.0 in
-      ap Value
+      ap Some
       (gathered (digit a) (digit b) (digit c) (digit d) (digit e) (digit f) (digit g) (digit h) d0.1 d1.1 d2.1 d3.1 d4.1 d5.1 d6.1 d7.1
       (digits_in text) (digits_are ∙ rw (d0.0, d1.0, d2.0, d3.0, d4.0, d5.0, d6.0, d7.0) (omega arith)) pairs fours ep ef)
       ∙ rw k

@@ -9,15 +9,16 @@ use borrow.Author.Tests.{eq-eqb, lt-ltb, eqb-true, eqb-false, ltb-true, ltb-fals
 use lib.Dec.{eqb, ltb, lit<}
 use lib.ListN.{length, get_or, take, drop, length-drop}
 use lib.Seq.{get_or-drop, get_or-take, take_all, take-suc, take-take, take-append_seam}
+use Rattle.std.specs.Prelude.{Option, Some, None}
 use Rattle.device.specs.declared.event.Event.TheVariants.{Reset}
 use Rattle.device.specs.declared.event.Block.TheVariants.{Rifsc, Iac, Risaf}
 use Rattle.print.specs.Bytes.{bytes}
-use Rattle.script.specs.Command.{number_or, by_keyword, command_in, lines_of, reset_line, blocks_of, request_fields, register_line, peripheral_line, memory_line, master_line, map_line}
+use Rattle.script.specs.Command.{◌>>=◌, by_keyword, command_in, lines_of, reset_line, blocks_of, request_fields, register_line, peripheral_line, memory_line, master_line, map_line}
 use Rattle.script.specs.Fields.{tab, field_at, fields_of, onto, same}
 use Rattle.script.specs.Numbers.{every, decimal_of}
 use Rattle.script.specs.Places.{rest_at, field_from, end_from, ends_at, begins_at, Starts}
 use Rattle.script.specs.declared.command.Command.{Command}
-use Rattle.script.specs.declared.command.Command.TheVariants.{Event, Bad}
+use Rattle.script.specs.declared.command.Command.TheVariants.{Event}
 use Rattle.script.proofs.Places.{Field, field, field-bytes, field_of, no_tabs, some-there, starts-begin, starts-field, starts-next, its-count, other-count}
 use Rattle.script.proofs.Readings.{request-there}
 use Rattle.script.proofs.Told.{both_true}
@@ -121,17 +122,17 @@ module _ (line : List ℕ) (p : ℕ) (word : List ℕ) where
 -- ---- lines and blocks by their keyword
 
 -- a keyword that is not there, or whose line is bad
-past : (f word : List ℕ) (c : Command) (ls : List (List ℕ × Command)) → (same f word ≡ false) ⊎ (c ≡ Bad) → by_keyword f ls ≡ Bad
-    → by_keyword f ((word, c) ∷ ls) ≡ Bad
+past : (f word : List ℕ) (c : Option Command) (ls : List (List ℕ × Option Command)) → (same f word ≡ false) ⊎ (c ≡ None) → by_keyword f ls ≡ None
+    → by_keyword f ((word, c) ∷ ls) ≡ None
 unfolding by_keyword
 past f word c ls (inl e) q = rw e q
 past f word c ls (inr e) q = go (same f word)
   where
-    go : (t : Bool) → cond t c (by_keyword f ls) ≡ Bad
+    go : (t : Bool) → cond t c (by_keyword f ls) ≡ None
     go true = e
     go false = q
 
-none : (f : List ℕ) → by_keyword f [] ≡ Bad
+none : (f : List ℕ) → by_keyword f [] ≡ None
 unfolding by_keyword
 none f = refl
 
@@ -141,7 +142,7 @@ on-right g (inr b) = inr (g b)
 
 -- no field follows the keyword
 alone : (fs : List (List ℕ)) → length fs ≡ 1
-    → (register_line fs ≡ Bad) × (peripheral_line fs ≡ Bad) × (memory_line fs ≡ Bad) × (master_line fs ≡ Bad) × (map_line fs ≡ Bad)
+    → (register_line fs ≡ None) × (peripheral_line fs ≡ None) × (memory_line fs ≡ None) × (master_line fs ≡ None) × (map_line fs ≡ None)
 unfolding by_keyword blocks_of same peripheral_line memory_line master_line map_line
 alone [] h = absurd (omega arith)
 alone (f ∷ []) h = (refl, refl, refl, refl, refl)
@@ -149,8 +150,8 @@ alone (f ∷ g ∷ fs) h = absurd (omega arith)
 
 -- nor the block
 block-alone : (fs : List (List ℕ)) → length fs ≡ 2
-    → (request_fields Rifsc 2 fs ≡ Bad) × (request_fields Iac 2 fs ≡ Bad)
-    × ((number_or Bad (decimal_of (field_at fs 2)) λ guard. request_fields (Risaf (record { 0 = guard })) 3 fs) ≡ Bad)
+    → (request_fields Rifsc 2 fs ≡ None) × (request_fields Iac 2 fs ≡ None)
+    × ((decimal_of (field_at fs 2) >>= λ guard. request_fields (Risaf (record { 0 = guard })) 3 fs) ≡ None)
 unfolding request_fields decimal_of
 block-alone [] h = absurd (omega arith)
 block-alone (f ∷ []) h = absurd (omega arith)
@@ -177,7 +178,7 @@ module _ {line : List ℕ} {fs : List (List ℕ)} {p : ℕ} (s : Starts line fs 
       (ap (λ (w : List ℕ). by_keyword w (blocks_of fs)) (word-field line p (bytes "iac") h s refl) ∙ sym (request-there n Iac), n.within)
 
   pub is-risaf : begins_at line p (bytes "risaf\t") ≡ true
-      → (register_line fs ≡ (number_or Bad (decimal_of (field_at fs 2)) λ guard. request_fields (Risaf (record { 0 = guard })) 3 fs))
+      → (register_line fs ≡ (decimal_of (field_at fs 2) >>= λ guard. request_fields (Risaf (record { 0 = guard })) 3 fs))
       × Starts line fs 2 (p + 6)
   unfolding by_keyword blocks_of same every
   is-risaf h =
@@ -187,7 +188,7 @@ module _ {line : List ℕ} {fs : List (List ℕ)} {p : ℕ} (s : Starts line fs 
       )
 
 pub no_block : {line : List ℕ} {fs : List (List ℕ)} {p : ℕ} → Starts line fs 1 p → begins_at line p (bytes "rifsc\t") ≡ false
-    → begins_at line p (bytes "iac\t") ≡ false → begins_at line p (bytes "risaf\t") ≡ false → register_line fs ≡ Bad
+    → begins_at line p (bytes "iac\t") ≡ false → begins_at line p (bytes "risaf\t") ≡ false → register_line fs ≡ None
 unfolding blocks_of
 no_block {line = line} {fs = fs} {p = p} s a b c =
     past _ (bytes "rifsc") _ _ (on-right (λ e. (block-alone fs e).0) (word-not line p (bytes "rifsc") s (lit< tt) a))
@@ -205,17 +206,17 @@ module _ (line : List ℕ) where
       let k = both_true (begins_at line 0 (bytes "reset")) (eqb (length line) 5) h in
       sym (take_all 5 line (omega (arith, eqb-true (length line) 5 k.1))) ∙ same-is (take 5 line) (bytes "reset") k.0
 
-  pub reset-is : (begins_at line 0 (bytes "reset") && eqb (length line) 5) ≡ true → Event Reset ≡ command_in (fields_of line)
+  pub reset-is : (begins_at line 0 (bytes "reset") && eqb (length line) 5) ≡ true → Some (Event Reset) ≡ command_in (fields_of line)
   unfolding by_keyword lines_of reset_line same fields_of onto
   reset-is h = sym (ap (λ (l : List ℕ). command_in (fields_of l)) (reset-line h))
 
   not-reset : (begins_at line 0 (bytes "reset") && eqb (length line) 5) ≡ false
-      → (same (field_at (fields_of line) 0) (bytes "reset") ≡ false) ⊎ (reset_line (fields_of line) ≡ Bad)
+      → (same (field_at (fields_of line) 0) (bytes "reset") ≡ false) ⊎ (reset_line (fields_of line) ≡ None)
   unfolding reset_line
   not-reset h = go (same (field_at (fields_of line) 0) (bytes "reset")) refl (eqb (length (fields_of line)) 1) refl
     where
       go : (t : Bool) → same (field_at (fields_of line) 0) (bytes "reset") ≡ t → (u : Bool) → eqb (length (fields_of line)) 1 ≡ u
-          → (same (field_at (fields_of line) 0) (bytes "reset") ≡ false) ⊎ (reset_line (fields_of line) ≡ Bad)
+          → (same (field_at (fields_of line) 0) (bytes "reset") ≡ false) ⊎ (reset_line (fields_of line) ≡ None)
       go false e u q = inl e
       go true e false q = inr (rw q)
       go true e true q =
@@ -226,7 +227,7 @@ module _ (line : List ℕ) where
         where
           whole : (t : Bool) → eqb (length line) 5 ≡ t → field_from line 0 ≡ bytes "reset" → Field line 0 5
               → Starts line (fields_of line) 1 (suc (end_from line 0)) → eqb (length (fields_of line)) 1 ≡ true
-              → (same (field_at (fields_of line) 0) (bytes "reset") ≡ false) ⊎ (reset_line (fields_of line) ≡ Bad)
+              → (same (field_at (fields_of line) 0) (bytes "reset") ≡ false) ⊎ (reset_line (fields_of line) ≡ None)
           whole true k w f n q =
               absurd
               (true≢false
@@ -244,7 +245,7 @@ module _ (line : List ℕ) where
 
   pub no_line : begins_at line 0 (bytes "mem\t") ≡ false → begins_at line 0 (bytes "reg\t") ≡ false → begins_at line 0 (bytes "per\t") ≡ false
       → begins_at line 0 (bytes "dma\t") ≡ false → begins_at line 0 (bytes "map\t") ≡ false
-      → (begins_at line 0 (bytes "reset") && eqb (length line) 5) ≡ false → command_in (fields_of line) ≡ Bad
+      → (begins_at line 0 (bytes "reset") && eqb (length line) 5) ≡ false → command_in (fields_of line) ≡ None
   unfolding lines_of
   no_line mem reg per dma map reset =
       let s = first_field in

@@ -11,56 +11,17 @@ use borrow.Author.Tests.{eq-eqb, ne_eqb, eqb-true, eqb-false}
 use lib.Dec.{eqb, lit<}
 use lib.ListN.{length, length-drop}
 use lib.Seq.{get_or-drop}
+use Rattle.std.proofs.lemmas.Option.{none-some, some_pair_parts}
+use Rattle.std.specs.Prelude.{Option, Some, None, option_map}
 use Rattle.device.specs.declared.event.Block.{Block}
 use Rattle.device.specs.declared.event.Operation.{Operation}
-use Rattle.script.specs.Command.{number_or, request_fields, rights_fields}
+use Rattle.script.specs.Command.{request_fields, rights_fields}
 use Rattle.script.specs.Fields.{tab, field_at}
 use Rattle.script.specs.Numbers.{hex_of, decimal_of, either_of, operation_of}
 use Rattle.script.specs.Places.{rest_at, field_from, end_from, decimal_at, Starts, last_rights}
-use Rattle.script.specs.declared.events.Rights.{Rights}
-use Rattle.script.specs.declared.events.Rights.TheVariants.{Are, NoRights}
-use Rattle.script.specs.declared.numbers.Number.{Number}
-use Rattle.script.specs.declared.numbers.Number.TheVariants.{Value, NoNumber}
-use Rattle.script.specs.declared.numbers.Decimal.{Decimal}
-use Rattle.script.specs.declared.numbers.Decimal.TheVariants.{NoDecimal, Till}
-use Rattle.script.specs.declared.numbers.Choice.{Choice}
-use Rattle.script.specs.declared.numbers.Choice.TheVariants.{Made, Neither}
-use Rattle.script.specs.declared.numbers.Action.{Action}
-use Rattle.script.specs.declared.numbers.Action.TheVariants.{Of, NoAction}
 use Rattle.script.proofs.Fixed.{Fixed, its-length, hex-fixed, either-fixed, operation-fixed}
 use Rattle.script.proofs.Told.{told}
 use Rattle.script.proofs.Places.{some-there, starts-begin, starts-field, starts-next, other-count}
-
--- ---- what reads is not what does not
-
-abbrev is_number : Number → Bool
-is_number (Value n) = true
-is_number NoNumber = false
-
-abbrev is_choice : Choice → Bool
-is_choice (Made t) = true
-is_choice Neither = false
-
-abbrev is_action : Action → Bool
-is_action (Of o) = true
-is_action NoAction = false
-
-abbrev is_rights : Rights → Bool
-is_rights (Are s p) = true
-is_rights NoRights = false
-
-abbrev is_decimal : Decimal → Bool
-is_decimal (Till n e) = true
-is_decimal NoDecimal = false
-
--- the parts of one that reads
-abbrev value_in : Decimal → ℕ
-value_in (Till n e) = n
-value_in NoDecimal = 0
-
-abbrev end_in : Decimal → ℕ
-end_in (Till n e) = e
-end_in NoDecimal = 0
 
 pub either_way {ℓ} : {A : Type ℓ} (t : Bool) (a : A) → a ≡ cond t a a
 either_way true a = refl
@@ -73,56 +34,54 @@ module _ {line : List ℕ} {fs : List (List ℕ)} {k p : ℕ} (s : Starts line f
   pub there {ℓ} : {R : Type ℓ} (read : List ℕ → R) {r v : R} → r ≡ read (field_from line p) → r ≡ v → read (field_at fs k) ≡ v
   there read e q = ap read (sym (starts-field s)) ∙ told e q
 
-  fixed-next : {R : Type 0} {n : ℕ} {read : List ℕ → R} {bad : R} → Fixed n read bad → (read (field_at fs k) ≡ bad → ⊥)
+  fixed-next : {R : Type 0} {n : ℕ} {read : List ℕ → Option R} → Fixed n read → {v : R} → read (field_at fs k) ≡ Some v
       → Starts line fs (suc k) (suc (p + n))
   fixed-next {read = read} f h =
-      let e = its-length f line p (λ q. h (ap read (sym (starts-field s)) ∙ q)) in
+      let e = its-length f line p (ap read (starts-field s) ∙ h) in
       rw e at (starts-next s (some-there line p (omega (arith, f.some))))
 
-  pub hex-next : {v : ℕ} → hex_of (field_at fs k) ≡ Value v → Starts line fs (suc k) (p + 9)
+  pub hex-next : {v : ℕ} → hex_of (field_at fs k) ≡ Some v → Starts line fs (suc k) (p + 9)
   hex-next e =
       let q : p + 9 ≡ suc (p + 8) = omega arith in
-      rw q (fixed-next hex-fixed (λ b. true≢false (ap is_number (sym e ∙ b))))
+      rw q (fixed-next hex-fixed e)
 
-  pub either-next : (this that : ℕ) → tab < this → tab < that → {t : Bool} → either_of this that (field_at fs k) ≡ Made t
+  pub either-next : (this that : ℕ) → tab < this → tab < that → {t : Bool} → either_of this that (field_at fs k) ≡ Some t
       → Starts line fs (suc k) (p + 2)
   either-next this that l m e =
       let q : p + 2 ≡ suc (p + 1) = omega arith in
-      rw q (fixed-next (either-fixed this that l m) (λ b. true≢false (ap is_choice (sym e ∙ b))))
+      rw q (fixed-next (either-fixed this that l m) e)
 
-  pub operation-next : {o : Operation} → operation_of (field_at fs k) ≡ Of o → Starts line fs (suc k) (p + 2)
+  pub operation-next : {o : Operation} → operation_of (field_at fs k) ≡ Some o → Starts line fs (suc k) (p + 2)
   operation-next e =
       let q : p + 2 ≡ suc (p + 1) = omega arith in
-      rw q (fixed-next operation-fixed (λ b. true≢false (ap is_action (sym e ∙ b))))
+      rw q (fixed-next operation-fixed e)
 
-  pub decimal-none : {r : Decimal} → r ≡ decimal_at line p → r ≡ NoDecimal → decimal_of (field_at fs k) ≡ NoNumber
+  pub decimal-none : {r : Option (ℕ × ℕ)} → r ≡ decimal_at line p → r ≡ None → decimal_of (field_at fs k) ≡ None
   unfolding decimal_at
-  decimal-none q e = go (decimal_of (field_from line p)) (ap decimal_of (starts-field s)) (told q e)
+  decimal-none q e = ap decimal_of (sym (starts-field s)) ∙ go (decimal_of (field_from line p)) (told q e)
     where
-      go : (n : Number) → n ≡ decimal_of (field_at fs k) → (number_or NoDecimal n λ v. Till v (end_from line p)) ≡ NoDecimal
-          → decimal_of (field_at fs k) ≡ NoNumber
-      go NoNumber h u = sym h
-      go (Value n) h u = absurd (true≢false (ap is_decimal u))
+      go : (n : Option ℕ) → option_map {U = ℕ × ℕ} (λ v. (v, end_from line p)) n ≡ None → n ≡ None
+      go None u = refl
+      go (Some n) u = cc
 
-  decimal-is : {r : Decimal} {v e : ℕ} → r ≡ decimal_at line p → r ≡ Till v e → (decimal_of (field_from line p) ≡ Value v) × (end_from line p ≡ e)
+  decimal-is : {r : Option (ℕ × ℕ)} {v e : ℕ} → r ≡ decimal_at line p → r ≡ Some (v, e) → (decimal_of (field_from line p) ≡ Some v) × (end_from line p ≡ e)
   unfolding decimal_at
-  decimal-is {v = v} {e = e} q u = go (decimal_of (field_from line p)) refl (told q u)
+  decimal-is {v = v} {e = e} q u = go (decimal_of (field_from line p)) (told q u)
     where
-      go : (n : Number) → decimal_of (field_from line p) ≡ n → (number_or NoDecimal n λ v. Till v (end_from line p)) ≡ Till v e
-          → (decimal_of (field_from line p) ≡ Value v) × (end_from line p ≡ e)
-      go NoNumber h u = absurd (false≢true (ap is_decimal u))
-      go (Value n) h u = (h ∙ ap Value (ap value_in u), ap end_in u)
+      go : (n : Option ℕ) → option_map {U = ℕ × ℕ} (λ v. (v, end_from line p)) n ≡ Some (v, e) → (n ≡ Some v) × (end_from line p ≡ e)
+      go None u = cc
+      go (Some n) u = let d = some_pair_parts n v (end_from line p) e u in (ap Some d.0, d.1)
 
-  pub decimal-read : {r : Decimal} {v e : ℕ} → r ≡ decimal_at line p → r ≡ Till v e → decimal_of (field_at fs k) ≡ Value v
+  pub decimal-read : {r : Option (ℕ × ℕ)} {v e : ℕ} → r ≡ decimal_at line p → r ≡ Some (v, e) → decimal_of (field_at fs k) ≡ Some v
   decimal-read q u = ap decimal_of (sym (starts-field s)) ∙ (decimal-is q u).0
 
-  pub decimal-next : {r : Decimal} {v e : ℕ} → r ≡ decimal_at line p → r ≡ Till v e → Starts line fs (suc k) (e + 1)
+  pub decimal-next : {r : Option (ℕ × ℕ)} {v e : ℕ} → r ≡ decimal_at line p → r ≡ Some (v, e) → Starts line fs (suc k) (e + 1)
   unfolding decimal_of
-  decimal-next {e = e} q u = go (field_from line p) refl (decimal-is q u)
+  decimal-next {v = v} {e = e} q u = go (field_from line p) refl (decimal-is q u)
     where
-      go : {v : ℕ} (f : List ℕ) → field_from line p ≡ f → (decimal_of (field_from line p) ≡ Value v) × (end_from line p ≡ e)
+      go : (f : List ℕ) → field_from line p ≡ f → (decimal_of (field_from line p) ≡ Some v) × (end_from line p ≡ e)
           → Starts line fs (suc k) (e + 1)
-      go [] h d = absurd (false≢true (ap is_number (ap decimal_of (sym h) ∙ d.0)))
+      go [] h d = absurd (none-some v (sym (ap decimal_of h) ∙ d.0))
       go (b ∷ f) h d = rw (add-one, sym d.1) (starts-next s (some-there line p (omega (arith, ap length h))))
 
 -- ---- several fields
@@ -148,7 +107,7 @@ module _ {line : List ℕ} {fs : List (List ℕ)} {k p : ℕ} (s : Starts line f
       rw (fields-there j, fields-there (j + 1), e)
 
   -- the last two fields
-  pub rights-there : last_rights (rest_at p line) ≡ cond (eqb (length fs) (k + 2)) (rights_fields fs k) NoRights
+  pub rights-there : last_rights (rest_at p line) ≡ cond (eqb (length fs) (k + 2)) (rights_fields fs k) None
   unfolding last_rights
   rights-there =
       let e : k + 0 ≡ k = omega arith in
@@ -162,23 +121,24 @@ module _ {line : List ℕ} {fs : List (List ℕ)} {k p : ℕ} (s : Starts line f
 -- ---- the rights that end a line
 
 -- they end three bytes after where they start
-pub rights-length : (line : List ℕ) (p : ℕ) → p ≤ suc (length line) → (length line ≡ p + 2 + 1 → ⊥) → NoRights ≡ last_rights (rest_at p line)
+pub rights-length : (line : List ℕ) (p : ℕ) → p ≤ suc (length line) → (length line ≡ p + 2 + 1 → ⊥) → None ≡ last_rights (rest_at p line)
 unfolding last_rights rights_fields
 rights-length line p h k =
     go (either_of (code "s") (code "n") (field_at (rest_at p line) 0)) refl (either_of (code "p") (code "u") (field_at (rest_at p line) 1)) refl
   where
-    go : (a : Choice) → either_of (code "s") (code "n") (field_at (rest_at p line) 0) ≡ a
-        → (b : Choice) → either_of (code "p") (code "u") (field_at (rest_at p line) 1) ≡ b → NoRights ≡ last_rights (rest_at p line)
-    go Neither e b f = rw e (either_way (eqb (length (rest_at p line)) 2) NoRights)
-    go (Made a) e Neither f = rw (e, f) (either_way (eqb (length (rest_at p line)) 2) NoRights)
-    go (Made a) e (Made b) f =
+    go : (a : Option Bool) → either_of (code "s") (code "n") (field_at (rest_at p line) 0) ≡ a
+        → (b : Option Bool) → either_of (code "p") (code "u") (field_at (rest_at p line) 1) ≡ b → None ≡ last_rights (rest_at p line)
+    go None e b f = rw e (either_way (eqb (length (rest_at p line)) 2) None)
+    go (Some a) e None f = rw (e, f) (either_way (eqb (length (rest_at p line)) 2) None)
+    go (Some a) e (Some b) f =
         let s = either-next (either-next (starts-begin line p h) (code "s") (code "n") (lit< tt) (lit< tt) e) (code "p") (code "u") (lit< tt) (lit< tt) f in
         rw (other-count s (λ q. k (omega (arith, q))))
 
-pub no-rights : (t : Bool) (r : Rights) → cond t r NoRights ≡ NoRights → (t ≡ false) ⊎ (r ≡ NoRights)
-no-rights true r e = inr e
-no-rights false r e = inl refl
+-- what a test lets through
+pub not-through : {A : Type 0} (t : Bool) (r : Option A) → cond t r None ≡ None → (t ≡ false) ⊎ (r ≡ None)
+not-through true r e = inr e
+not-through false r e = inl refl
 
-pub some-rights : (t : Bool) (r : Rights) {a b : Bool} → cond t r NoRights ≡ Are a b → (t ≡ true) × (r ≡ Are a b)
-some-rights true r e = (refl, e)
-some-rights false r e = absurd (false≢true (ap is_rights e))
+pub through : {A : Type 0} (t : Bool) (r : Option A) {a : A} → cond t r None ≡ Some a → (t ≡ true) × (r ≡ Some a)
+through true r e = (refl, e)
+through false r e = cc

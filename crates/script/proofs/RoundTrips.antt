@@ -7,9 +7,9 @@ use native.Mathlib.Nat.{div-add-mod', div-lt_iff_lt-mul, mod-lt, mul_comm, pow-s
 use native.Mathlib.Omega.{arith}
 use borrow.Author.Tests.{ne_eqb, le-leb, lt-leb, lt-ltb, ltb-true, ltb-false}
 use lib.Dec.{ltb, lit<, lit≤}
+use Rattle.std.specs.Prelude.{Some}
 use Rattle.script.specs.Numbers.{is_decimal, is_hex, digit, every, value_from, unpadded, hex_of, decimal_of, number_most}
 use Rattle.print.specs.Print.{character, digits_of, hex_text, width_in, width_of, decimal_text}
-use Rattle.script.specs.declared.numbers.Number.TheVariants.{Value}
 use Rattle.print.proofs.Digits.{digits-length, width_one, width-more, width-holds}
 
 -- ---- one digit
@@ -74,7 +74,7 @@ module _ (base : ℕ) (low : 0 < base) (high : base ≤ 16) where
 
 -- ---- a word
 
-pub hex-back : (w : ℕ) → w < 2 ^ 32 → hex_of (hex_text 8 w) ≡ Value w
+pub hex-back : (w : ℕ) → w < 2 ^ 32 → hex_of (hex_text 8 w) ≡ Some w
 unfolding hex_of
 hex-back w h =
     rw
@@ -126,6 +126,6 @@ decimal-digits : (n : ℕ) → every is_decimal (decimal_text n) ≡ true
 unfolding decimal_text
 decimal-digits n = digits-every 10 (lit< tt) (lit≤ tt) is_decimal decimal_digit (width_of n) n
 
-pub decimal-back : (n : ℕ) → n ≤ number_most → decimal_of (decimal_text n) ≡ Value n
+pub decimal-back : (n : ℕ) → n ≤ number_most → decimal_of (decimal_text n) ≡ Some n
 unfolding decimal_of
 decimal-back n h = rw (unpadded-text n, decimal-digits n, decimal-value n, le-leb n number_most h)

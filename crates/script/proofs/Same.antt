@@ -9,10 +9,9 @@ use borrow.Author.Tests.{ne_eqb}
 use lib.Dec.{eqb}
 use lib.ListN.{length, get_or, take, drop, drop_of_length-le}
 use lib.Seq.{drop-cons}
+use Rattle.std.specs.Prelude.{Some, None}
 use Rattle.script.specs.Fields.{same}
 use Rattle.script.specs.Numbers.{either_of, operation_of}
-use Rattle.script.specs.declared.numbers.Choice.TheVariants.{Made, Neither}
-use Rattle.script.specs.declared.numbers.Action.TheVariants.{NoAction}
 
 pub same-unequal : (s t : List ℕ) → (length s ≡ length t → ⊥) → same s t ≡ false
 unfolding same
@@ -39,15 +38,15 @@ no-letter s b h = same-unequal s (b ∷ []) h
 pub one_byte : (line : List ℕ) (p : ℕ) → p < length line → take 1 (drop p line) ≡ get_or line p 0 ∷ []
 one_byte line p h = rw (drop-cons line p 0 h)
 
-pub either-byte : (this that b : ℕ) → cond (eqb b this || eqb b that) (Made (eqb b this)) Neither ≡ either_of this that (b ∷ [])
+pub either-byte : (this that b : ℕ) → cond (eqb b this || eqb b that) (Some (eqb b this)) None ≡ either_of this that (b ∷ [])
 unfolding either_of same
 either-byte this that b = go (eqb b this) (eqb b that)
   where
-    go : (t u : Bool) → cond (t || u) (Made t) Neither ≡ cond (t && true) (Made true) (cond (u && true) (Made false) Neither)
+    go : (t u : Bool) → cond (t || u) (Some t) None ≡ cond (t && true) (Some true) (cond (u && true) (Some false) None)
     go true u = refl
     go false true = refl
     go false false = refl
 
-pub other_byte : (b : ℕ) → (b ≡ code "r" → ⊥) → (b ≡ code "w" → ⊥) → (b ≡ code "x" → ⊥) → NoAction ≡ operation_of (b ∷ [])
+pub other_byte : (b : ℕ) → (b ≡ code "r" → ⊥) → (b ≡ code "w" → ⊥) → (b ≡ code "x" → ⊥) → None ≡ operation_of (b ∷ [])
 unfolding operation_of same
 other_byte b r w x = rw (ne_eqb b (code "r") r, ne_eqb b (code "w") w, ne_eqb b (code "x") x)

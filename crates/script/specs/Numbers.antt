@@ -1,14 +1,10 @@
 -- What a field says: document 01, "8 lowercase hex digits", "decimal without leading zeros", and single letters.
-use Rattle.std.specs.Prelude.{Bool, true, false, not, ◌&&◌, ◌||◌, cond, List, [], ◌∷◌, ℕ, ◌+◌, ◌-◌, ◌*◌, eqb, leb, length}
+use Rattle.std.specs.Bool.{then_some}
+use Rattle.std.specs.Prelude.{Bool, true, false, not, ◌&&◌, ◌||◌, cond, List, [], ◌∷◌, ℕ, ◌+◌, ◌-◌, ◌*◌, eqb, leb, length, Option, Some, None}
 use Prim.Native.Char.{code}
+use Rattle.device.specs.declared.event.Operation.{Operation}
 use Rattle.device.specs.declared.event.Operation.TheVariants.{Read, Write, Fetch}
 use Rattle.script.specs.Fields.{same}
-use Rattle.script.specs.declared.numbers.Number.{Number}
-use Rattle.script.specs.declared.numbers.Number.TheVariants.{Value, NoNumber}
-use Rattle.script.specs.declared.numbers.Choice.{Choice}
-use Rattle.script.specs.declared.numbers.Choice.TheVariants.{Made, Neither}
-use Rattle.script.specs.declared.numbers.Action.{Action}
-use Rattle.script.specs.declared.numbers.Action.TheVariants.{Of, NoAction}
 
 -- ---- digits
 
@@ -35,14 +31,9 @@ value_from base n (b ∷ bs) = value_from base (base * n + digit b) bs
 
 -- ---- numbers
 
--- a number, where the test is passed
-abbrev pub number_if : Bool → ℕ → Number
-number_if true n = Value n
-number_if false n = NoNumber
-
 -- exactly 8 digits
-unfoldable pub hex_of : List ℕ → Number
-hex_of s = number_if (eqb (length s) 8 && every is_hex s) (value_from 16 0 s)
+unfoldable pub hex_of : List ℕ → Option ℕ
+hex_of s = then_some (eqb (length s) 8 && every is_hex s) (value_from 16 0 s)
 
 -- at least one digit, and no zero before another
 abbrev pub unpadded : List ℕ → Bool
@@ -54,17 +45,17 @@ unpadded (b ∷ c ∷ bs) = not (eqb b (code "0"))
 abbrev pub number_most : ℕ
 number_most = 4294967295
 
-unfoldable pub decimal_of : List ℕ → Number
+unfoldable pub decimal_of : List ℕ → Option ℕ
 decimal_of s =
-    number_if (unpadded s && every is_decimal s && leb (value_from 10 0 s) number_most) (value_from 10 0 s)
+    then_some (unpadded s && every is_decimal s && leb (value_from 10 0 s) number_most) (value_from 10 0 s)
 
 -- ---- letters
 
 -- one letter or the other
-unfoldable pub either_of : ℕ → ℕ → List ℕ → Choice
-either_of this that s = cond (same s (this ∷ [])) (Made true) (cond (same s (that ∷ [])) (Made false) Neither)
+unfoldable pub either_of : ℕ → ℕ → List ℕ → Option Bool
+either_of this that s = cond (same s (this ∷ [])) (Some true) (cond (same s (that ∷ [])) (Some false) None)
 
 -- r, w or x
-unfoldable pub operation_of : List ℕ → Action
+unfoldable pub operation_of : List ℕ → Option Operation
 operation_of s =
-    cond (same s (code "r" ∷ [])) (Of Read) (cond (same s (code "w" ∷ [])) (Of Write) (cond (same s (code "x" ∷ [])) (Of Fetch) NoAction))
+    cond (same s (code "r" ∷ [])) (Some Read) (cond (same s (code "w" ∷ [])) (Some Write) (cond (same s (code "x" ∷ [])) (Some Fetch) None))

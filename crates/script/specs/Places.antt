@@ -1,12 +1,8 @@
 -- Where a line's fields start and end, which is what code goes by.
-use Rattle.std.specs.Prelude.{Bool, cond, List, [], ◌∷◌, ◌≡◌, ℕ, zero, suc, ◌+◌, ◌*◌, ◌≤◌, eqb, ltb, length, get_or, take, drop}
-use Rattle.script.specs.Command.{number_or, rights_fields}
+use Rattle.std.specs.Prelude.{Bool, cond, List, [], ◌∷◌, ◌≡◌, ℕ, zero, suc, ◌+◌, ◌*◌, ◌≤◌, eqb, ltb, length, get_or, take, drop, Option, Some, None, option_map}
+use Rattle.script.specs.Command.{rights_fields}
 use Rattle.script.specs.Fields.{tab, field_at, fields_of, same}
 use Rattle.script.specs.Numbers.{decimal_of}
-use Rattle.script.specs.declared.numbers.Decimal.{Decimal}
-use Rattle.script.specs.declared.numbers.Decimal.TheVariants.{NoDecimal, Till}
-use Rattle.script.specs.declared.events.Rights.{Rights}
-use Rattle.script.specs.declared.events.Rights.TheVariants.{NoRights}
 
 -- the fields from place p of a line on; past the line's end there are none
 unfoldable pub rest_at : ℕ → List ℕ → List (List ℕ)
@@ -42,9 +38,9 @@ abbrev pub begins_at : List ℕ → ℕ → List ℕ → Bool
 begins_at line p word = same (take (length word) (drop p line)) word
 
 -- the decimal number at place p, and where its field ends
-unfoldable pub decimal_at : List ℕ → ℕ → Decimal
-decimal_at line p = number_or NoDecimal (decimal_of (field_from line p)) λ n. Till n (end_from line p)
+unfoldable pub decimal_at : List ℕ → ℕ → Option (ℕ × ℕ)
+decimal_at line p = option_map (λ n. (n, end_from line p)) (decimal_of (field_from line p))
 
 -- s/n p/u, and no field more
-unfoldable pub last_rights : List (List ℕ) → Rights
-last_rights fs = cond (eqb (length fs) 2) (rights_fields fs 0) NoRights
+unfoldable pub last_rights : List (List ℕ) → Option (Bool × Bool)
+last_rights fs = cond (eqb (length fs) 2) (rights_fields fs 0) None

@@ -5,7 +5,7 @@ ghost use Rattle.script.specs.Command.{command_in, command_of, map_line};
 
 use crate::events::{master, memory, peripheral, register};
 use crate::fields::{LINE_MOST, begins};
-use crate::numbers::{Decimal, decimal_at};
+use crate::numbers::decimal_at;
 use device::Event;
 use risaf::GuardNumber;
 
@@ -20,25 +20,22 @@ const RESET_LENGTH: usize = 5;
 pub enum Command {
     Event(Event),
     Map(GuardNumber),
-    Bad,
 }
 
 // `map` guard, from the field behind the keyword on
-fn map(line: &[u8], from: usize) -> Command
+fn map(line: &[u8], from: usize) -> Option<Command>
     requires { Starts line.now (fields_of line.now) 1 from }
     ensures { result ≡ map_line (fields_of line.now) }
 {
-    let Decimal::Till(guard, end) = decimal_at(line, from) else {
-        return Command::Bad;
-    };
+    let (guard, end) = decimal_at(line, from)?;
     if line.len() != end {
-        return Command::Bad;
+        return None;
     }
-    Command::Map(GuardNumber(guard))
+    Some(Command::Map(GuardNumber(guard)))
 }
 
 // By the keyword, the first field.
-fn by_keyword(line: &[u8]) -> Command
+fn by_keyword(line: &[u8]) -> Option<Command>
     ensures { result ≡ command_in (fields_of line.now) }
 {
     if begins(line, 0, b"mem\t") {
@@ -57,17 +54,17 @@ fn by_keyword(line: &[u8]) -> Command
         return map(line, KEYWORD_STEP);
     }
     if begins(line, 0, b"reset") & (line.len() == RESET_LENGTH) {
-        return Command::Event(Event::Reset);
+        return Some(Command::Event(Event::Reset));
     }
-    Command::Bad
+    None
 }
 
 // A line's bytes before the line feed.
-pub fn read_line(line: &[u8]) -> Command
+pub fn read_line(line: &[u8]) -> Option<Command>
     ensures { result ≡ command_of line.now }
 {
     if LINE_MOST < line.len() {
-        return Command::Bad;
+        return None;
     }
     by_keyword(line)
 }

@@ -26,40 +26,9 @@ const LOWER_BYTES: u64 = 0x00ff_00ff_00ff_00ff;
 
 const LOWER_PAIRS: u64 = 0x0000_ffff_0000_ffff;
 
-// The first variant of each says that the field does not read: the compiler takes a test for the first as likely to fail, and leaves a call
-// that stands behind several such tests a call.
-
-// A field's reading as a number.
-#[derive(Clone, Copy)]
-pub(crate) enum Number {
-    NoNumber,
-    Value(u32),
-}
-
-// The reading of a decimal number: what it is, and where its field ends.
-#[derive(Clone, Copy)]
-pub(crate) enum Decimal {
-    NoDecimal,
-    Till(u32, usize),
-}
-
-// A field's reading as one of two letters.
-#[derive(Clone, Copy)]
-pub(crate) enum Choice {
-    Neither,
-    Made(bool),
-}
-
-// A field's reading as r, w or x.
-#[derive(Clone, Copy)]
-pub(crate) enum Action {
-    NoAction,
-    Of(Operation),
-}
-
 // Eight hexadecimal digits, all at once: each byte of `text` is a character, and each of `digits` the digit that it stands for, if its
 // `letters` says rightly whether it is a letter. It does where the digit is below 16 and its own character is the one in `text`.
-fn hex(line: &[u8], from: usize) -> Number
+fn hex(line: &[u8], from: usize) -> Option<u32>
     requires { from + 8 ≤ length line.now }
     ensures { result ≡ hex_of (take 8 (drop from line.now)) }
 {
@@ -67,15 +36,15 @@ fn hex(line: &[u8], from: usize) -> Number
     let letters = (text & 64 * EACH) >> 6;
     let digits = (text & 15 * EACH) + 9 * letters;
     if (digits & 240 * EACH) != 0 {
-        return Number::NoNumber;
+        return None;
     }
     let tens = ((digits + 6 * EACH) & 16 * EACH) >> 4;
     if digits + 48 * EACH + 39 * tens != text {
-        return Number::NoNumber;
+        return None;
     }
     let pairs = (digits + (digits >> 4)) & LOWER_BYTES;
     let fours = (pairs + (pairs >> 8)) & LOWER_PAIRS;
-    Number::Value(((fours + (fours >> 16)) % 0x1_0000_0000) as u32)
+    Some(((fours + (fours >> 16)) % 0x1_0000_0000) as u32)
 }
 
 fn is_decimal(b: u8) -> bool
@@ -86,74 +55,74 @@ fn is_decimal(b: u8) -> bool
 
 // ---- the reading of the field that starts at `from`
 
-pub(crate) fn hex_at(line: &[u8], from: usize) -> Number
+pub(crate) fn hex_at(line: &[u8], from: usize) -> Option<u32>
     requires { from ≤ suc (length line.now) }
     ensures { result ≡ hex_of (field_from line.now from) }
 {
     if !ends(line, from + HEX_DIGITS) {
-        return Number::NoNumber;
+        return None;
     }
     hex(line, from)
 }
 
 // A decimal number without leading zeros.
-pub(crate) fn decimal_at(line: &[u8], from: usize) -> Decimal
+pub(crate) fn decimal_at(line: &[u8], from: usize) -> Option<(u32, usize)>
     ensures { result ≡ decimal_at line.now from }
 {
     if line.len() <= from {
-        return Decimal::NoDecimal;
+        return None;
     }
     let first = line[from];
     if !is_decimal(first) {
-        return Decimal::NoDecimal;
+        return None;
     }
     let mut n = (first - b'0') as u64;
     let mut i = from + 1;
     while i < line.len() {
         let b = line[i];
         if b == b'\t' {
-            return Decimal::Till(n as u32, i);
+            return Some((n as u32, i));
         }
         if (n == 0) | !is_decimal(b) {
-            return Decimal::NoDecimal;
+            return None;
         }
         n = 10 * n + (b - b'0') as u64;
         if NUMBER_MOST < n {
-            return Decimal::NoDecimal;
+            return None;
         }
         i += 1;
     }
-    Decimal::Till(n as u32, i)
+    Some((n as u32, i))
 }
 
 // The one letter or the other.
-pub(crate) fn either_at(line: &[u8], from: usize, this: u8, that: u8) -> Choice
+pub(crate) fn either_at(line: &[u8], from: usize, this: u8, that: u8) -> Option<bool>
     requires { (from ≤ suc (length line.now)) × (tab < this) × (tab < that) }
     ensures { result ≡ either_of this that (field_from line.now from) }
 {
     if !ends(line, from + 1) {
-        return Choice::Neither;
+        return None;
     }
     let b = line[from];
     if (b == this) | (b == that) {
-        Choice::Made(b == this)
+        Some(b == this)
     } else {
-        Choice::Neither
+        None
     }
 }
 
 // r, w or x.
-pub(crate) fn operation_at(line: &[u8], from: usize) -> Action
+pub(crate) fn operation_at(line: &[u8], from: usize) -> Option<Operation>
     requires { from ≤ suc (length line.now) }
     ensures { result ≡ operation_of (field_from line.now from) }
 {
     if !ends(line, from + 1) {
-        return Action::NoAction;
+        return None;
     }
     match line[from] {
-        b'r' => Action::Of(Operation::Read),
-        b'w' => Action::Of(Operation::Write),
-        b'x' => Action::Of(Operation::Fetch),
-        _ => Action::NoAction,
+        b'r' => Some(Operation::Read),
+        b'w' => Some(Operation::Write),
+        b'x' => Some(Operation::Fetch),
+        _ => None,
     }
 }

@@ -1,5 +1,5 @@
 -- The unfinished line in its memory.
-use Rattle.std.proofs.Common.{◌≡◌, ℕ, zero, suc, ◌+◌, ◌-◌, ◌<◌, ◌≤◌, min, Bool, true, false, cond, leb, List, [], ◌∷◌, ◌++◌, length, take, drop, sym, refl, ap, ◌∙◌, append-nil, arith, length-append, length-drop, take-append-drop, length-take, length-take-le, take_all, take_at, ne_eqb}
+use Rattle.std.proofs.Common.{◌≡◌, ℕ, zero, suc, ◌+◌, ◌-◌, ◌<◌, ◌≤◌, min, Bool, true, false, cond, leb, List, [], ◌∷◌, ◌++◌, length, take, drop, sym, refl, ap, ◌∙◌, append-nil, arith, length-append, length-drop, take-append-drop, length-take, length-take-le, take_all, take_at, ne_eqb, None}
 use native.Mathlib.Decide.{dec_le}
 use borrow.Author.Tests.{lt-leb}
 use lib.Seq.{paste, take-append-add, take-append-le}
@@ -7,7 +7,6 @@ use Rattle.print.specs.Print.{bad_line}
 use Rattle.print.specs.Writing.{bytes_with, place_with}
 use Rattle.script.specs.Command.{command_of}
 use Rattle.script.specs.Fields.{line_most}
-use Rattle.script.specs.declared.command.Command.TheVariants.{Bad}
 use Rattle.stream.specs.Kept.{kept_count, kept_in, line_room}
 use Rattle.stream.specs.Transcript.{end_text}
 
@@ -53,7 +52,7 @@ module _ (memory l : List ℕ) (n : ℕ) (long : length memory ≡ line_room) (f
 
 -- ---- a line too long is bad, however much of it is kept
 
-long-bad : (x : List ℕ) → line_most < length x → command_of x ≡ Bad
+long-bad : (x : List ℕ) → line_most < length x → command_of x ≡ None
 unfolding command_of
 long-bad x h = rw (lt-leb (length x) line_most h)
 

@@ -1,10 +1,9 @@
 -- What a call does with a block of the input, line by line: it stops where there is no room for the longest text, behind a bad line, and at
 -- the block's end, where it keeps the unfinished line.
-use Rattle.std.specs.Prelude.{ℕ, ◌+◌, Bool, true, false, cond, ◌&&◌, List, ◌++◌, length, take, ◌==◌, nat_le}
+use Rattle.std.specs.Prelude.{ℕ, ◌+◌, Bool, true, false, cond, ◌&&◌, List, ◌++◌, length, take, ◌==◌, nat_le, Option, Some, None}
 use Rattle.print.specs.Writing.{over}
 use Rattle.script.specs.Command.{command_of}
 use Rattle.script.specs.declared.command.Command.{Command}
-use Rattle.script.specs.declared.command.Command.TheVariants.{Event, Map, Bad}
 use Rattle.response.specs.Response.{left_by, room_for_longest, text_of}
 use Rattle.stream.specs.Kept.{Kept, kept_count, kept_in, line_room, next_number, nothing_of}
 use Rattle.stream.specs.Transcript.{Lines, line, rest, lines_in}
@@ -24,10 +23,9 @@ pub record Place : Type 0 where
 abbrev pub place_at : ℕ → Kept → List ℕ → ℕ → Place
 place_at took k out at = record { took = took; kept = k; out = out; at = at; bad = false; which = 0 }
 
-abbrev pub is_bad : Command → Bool
-is_bad (Event e) = false
-is_bad (Map n) = false
-is_bad Bad = true
+abbrev pub is_bad : Option Command → Bool
+is_bad (Some c) = false
+is_bad None = true
 
 -- the line that ends with l: what was kept of it, and l
 abbrev pub whole_line : Kept → List ℕ → List ℕ

@@ -22,29 +22,19 @@ returns-then-not-begins c = (
   omega arith,
 )
 
-pub returns-in_default : goal.returns-in_default
-returns-in_default c =
+pub returns-in_err-guard : goal.returns-in_err-guard
+returns-in_err-guard c =
     let risaf = is-risaf c.requires (told c.begins-3.ensures (c.if-not-begins.false)) in
-    let r = risaf in
-    (r.0 ∙ rw (decimal-none r.1 c.decimal_at.ensures c.in_default.is), omega arith)
+    rw c.from_residual.ensures (risaf.0 ∙ rw (decimal-none risaf.1 c.decimal_at.ensures c.in_err-guard.was), omega arith)
 
 pub returns : goal.returns
 returns c =
     let risaf = is-risaf c.requires (told c.begins-3.ensures (c.if-not-begins.false)) in
-    let next = decimal-next risaf.1 c.decimal_at.ensures c.in-Till.is in
-    let r = risaf in
-    let n = next in (
-      r.0 ∙ rw (decimal-read r.1 c.decimal_at.ensures c.in-Till.is) (sym (request-there n (Risaf _))),
-      n.within,
-    )
-
-pub overflow_add-from : goal.overflow_add-from
-overflow_add-from c =
-    let risaf = is-risaf c.requires (told c.begins-3.ensures (c.if-not-begins.false)) in
-    omega (arith, risaf.1.within)
+    let next = decimal-next risaf.1 c.decimal_at.ensures c.in_ok-guard.was in
+    (risaf.0 ∙ rw (decimal-read risaf.1 c.decimal_at.ensures c.in_ok-guard.was) (sym (request-there next (Risaf _))), next.within)
 
 pub overflow_add-result-2 : goal.overflow_add-result-2
 overflow_add-result-2 c =
     let risaf = is-risaf c.requires (told c.begins-3.ensures (c.if-not-begins.false)) in
-    let next = decimal-next risaf.1 c.decimal_at.ensures c.in-Till.is in
+    let next = decimal-next risaf.1 c.decimal_at.ensures c.in_ok-guard.was in
     omega (arith, next.within)
