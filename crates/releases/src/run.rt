@@ -53,13 +53,13 @@ fn take_part(
 {
     let from = place.from;
     let taken = take(place.held, state, line, &block[from..], out, 0);
-    if taken.bad {
-        name_bad(errors, path, taken.which);
+    if let Some(number) = taken.bad {
+        name_bad(errors, path, number);
     }
     Place {
         held: taken.held,
         from: from + taken.took,
-        good: place.good & !taken.bad,
+        good: place.good & taken.bad.is_none(),
     }
 }
 

@@ -1,5 +1,5 @@
 -- What is printed from where a call stands is what the call puts out, and then what is printed from where it stops.
-use Rattle.std.proofs.Common.{◌≡◌, ℕ, zero, suc, ◌+◌, ◌-◌, ◌%◌, ◌^◌, ◌<◌, ◌≤◌, Bool, true, false, cond, eqb, List, [], ◌++◌, length, take, drop, sym, refl, ap, ◌∙◌, append_assoc, arith, length-drop, length-take-le, take-add, leb-true}
+use Rattle.std.proofs.Common.{◌≡◌, ℕ, zero, suc, ◌+◌, ◌-◌, ◌%◌, ◌^◌, ◌<◌, ◌≤◌, Bool, true, false, cond, is_some, eqb, List, [], ◌++◌, length, take, drop, sym, refl, ap, ◌∙◌, append_assoc, arith, length-drop, length-take-le, take-add, leb-true}
 use native.Mathlib.Decide.{dec_lt}
 use lib.Seq.{take-length}
 use Rattle.script.specs.Command.{command_of}
@@ -165,9 +165,9 @@ goes_step bs s {n} {p} h rec = by (dec_lt (feed_at bs) (length bs))
     by (no other) =
         let e : feed_at bs ≡ length bs = omega (arith, other, feed-within bs) in
         goes_at (ap (stop s) (all_rest bs e)) (goes_last bs h e)
-    by (yes ends) = go (room_for_longest s.out s.at) (behind s (take (feed_at bs) bs)).bad refl refl
+    by (yes ends) = go (room_for_longest s.out s.at) (is_some (behind s (take (feed_at bs) bs)).bad) refl refl
       where
-        go : (t b : Bool) → room_for_longest s.out s.at ≡ t → (behind s (take (feed_at bs) bs)).bad ≡ b → Goes s (stop s (lines_in bs)) bs n p
+        go : (t b : Bool) → room_for_longest s.out s.at ≡ t → is_some (behind s (take (feed_at bs) bs)).bad ≡ b → Goes s (stop s (lines_in bs)) bs n p
         go false b room bad = goes_at (ap (stop s) (cut_off bs ends) ∙ full s (take (feed_at bs) bs) (lines_in (drop (suc (feed_at bs)) bs)) room) (goes-nowhere bs h)
         go true true room bad = goes_at (ap (stop s) (cut_off bs ends) ∙ at-bad s (take (feed_at bs) bs) (lines_in (drop (suc (feed_at bs)) bs)) room bad) (goes-line bs h ends room)
         go true false room bad =

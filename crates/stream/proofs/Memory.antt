@@ -2,7 +2,7 @@
 use Rattle.std.proofs.Common.{◌≡◌, ℕ, zero, suc, ◌+◌, ◌-◌, ◌<◌, ◌≤◌, min, Bool, true, false, cond, leb, List, [], ◌∷◌, ◌++◌, length, take, drop, sym, refl, ap, ◌∙◌, append-nil, arith, length-append, length-drop, take-append-drop, length-take, length-take-le, take_all, take_at, ne_eqb, None}
 use native.Mathlib.Decide.{dec_le}
 use borrow.Author.Tests.{lt-leb}
-use lib.Seq.{paste, take-append-add, take-append-le}
+use lib.Seq.{paste, take-append-add, take-append-le, take-length}
 use Rattle.print.specs.Print.{bad_line}
 use Rattle.print.specs.Writing.{bytes_with, place_with}
 use Rattle.script.specs.Command.{command_of}
@@ -15,13 +15,13 @@ take-taken zero l = refl
 take-taken (suc n) [] = refl
 take-taken (suc n) (b ∷ l) = ap (λ (t : List ℕ). b ∷ t) (take-taken n l)
 
--- copied byte by byte, as many as there is room for
+-- copied, as many as there is room for
 pub kept-all : (memory l : List ℕ) (n i : ℕ) → i ≡ min (line_room - n) (length l)
-    → (n + i ≡ kept_count n l) × (paste memory n l i ≡ kept_in memory n l)
+    → (n + i ≡ kept_count n l) × (paste memory n (take i l) i ≡ kept_in memory n l)
 unfolding kept_count kept_in
 kept-all memory l n i h =
     let e : i ≡ length (take (line_room - n) l) = h ∙ sym (length-take (line_room - n) l) in
-    (ap (λ (k : ℕ). n + k) e, rw (e, take-taken (line_room - n) l))
+    (ap (λ (k : ℕ). n + k) e, rw (e, take-taken (line_room - n) l, take-length))
 
 pub kept-most : (l : List ℕ) (n : ℕ) → n ≤ line_room → kept_count n l ≤ line_room
 unfolding kept_count

@@ -1,5 +1,5 @@
 -- How much a call takes: no more than it is given, and something where there is room for the longest text. How much is kept.
-use Rattle.std.proofs.Common.{◌≡◌, ℕ, ◌+◌, ◌<◌, ◌≤◌, Bool, true, false, cond, eqb, List, [], ◌∷◌, length, refl, arith, eq-eqb, le-leb}
+use Rattle.std.proofs.Common.{◌≡◌, ℕ, ◌+◌, ◌<◌, ◌≤◌, Bool, true, false, cond, is_some, eqb, List, [], ◌∷◌, length, refl, arith, eq-eqb, le-leb}
 use Rattle.response.specs.Response.{room_for_longest}
 use Rattle.stream.specs.Blocks.{Place, behind, called, fits, keeping, kept_behind, place_at, stop}
 use Rattle.stream.specs.Kept.{Kept, line_room}
@@ -24,7 +24,7 @@ size-lines (b ∷ bs) = go (eqb b feed) (lines_in bs) (size-lines bs)
 stop-took : (ls : Lines) (s : Place) → (s.took ≤ (stop s ls).took) × ((stop s ls).took ≤ s.took + size ls)
 unfolding stop size behind keeping
 stop-took (rest l) s = (omega arith, omega arith)
-stop-took (line l more) s = go (room_for_longest s.out s.at) (behind s l).bad (stop-took more (behind s l))
+stop-took (line l more) s = go (room_for_longest s.out s.at) (is_some (behind s l).bad) (stop-took more (behind s l))
   where
     go : (t b : Bool) → ((behind s l).took ≤ (stop (behind s l) more).took) × ((stop (behind s l) more).took ≤ (behind s l).took + size more)
         → (s.took ≤ (cond t (cond b (behind s l) (stop (behind s l) more)) s).took)
@@ -36,7 +36,7 @@ stop-took (line l more) s = go (room_for_longest s.out s.at) (behind s l).bad (s
 stop-few : (ls : Lines) (s : Place) → s.kept.held.bytes ≤ line_room → (stop s ls).kept.held.bytes ≤ line_room
 unfolding stop behind kept_behind keeping
 stop-few (rest l) s few = kept-most l s.kept.held.bytes few
-stop-few (line l more) s few = go (room_for_longest s.out s.at) (behind s l).bad (stop-few more (behind s l) (omega arith))
+stop-few (line l more) s few = go (room_for_longest s.out s.at) (is_some (behind s l).bad) (stop-few more (behind s l) (omega arith))
   where
     go : (t b : Bool) → (stop (behind s l) more).kept.held.bytes ≤ line_room
         → (cond t (cond b (behind s l) (stop (behind s l) more)) s).kept.held.bytes ≤ line_room
@@ -70,7 +70,7 @@ module _ (k : Kept) (block out : List ℕ) (at : ℕ) where
     where
       go : (ls : Lines) → size ls ≡ length block → 0 < (stop (place_at 0 k out at) ls).took
       go (rest l) h = omega (arith, h, some)
-      go (line l more) h = rw room (first (behind (place_at 0 k out at) l).bad (stop-took more (behind (place_at 0 k out at) l)).0)
+      go (line l more) h = rw room (first (is_some (behind (place_at 0 k out at) l).bad) (stop-took more (behind (place_at 0 k out at) l)).0)
         where
           first : (b : Bool) → (behind (place_at 0 k out at) l).took ≤ (stop (behind (place_at 0 k out at) l) more).took
               → 0 < (cond b (behind (place_at 0 k out at) l) (stop (behind (place_at 0 k out at) l) more)).took

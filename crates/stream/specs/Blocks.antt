@@ -1,6 +1,6 @@
 -- What a call does with a block of the input, line by line: it stops where there is no room for the longest text, behind a bad line, and at
 -- the block's end, where it keeps the unfinished line.
-use Rattle.std.specs.Prelude.{ℕ, ◌+◌, Bool, true, false, cond, ◌&&◌, List, ◌++◌, length, take, ◌==◌, nat_le, Option, Some, None}
+use Rattle.std.specs.Prelude.{ℕ, ◌+◌, Bool, true, false, cond, ◌&&◌, Option, None, Some, is_some, List, ◌++◌, length, take, ◌==◌, nat_le}
 use Rattle.print.specs.Writing.{over}
 use Rattle.script.specs.Command.{command_of}
 use Rattle.script.specs.declared.command.Command.{Command}
@@ -11,17 +11,16 @@ use Rattle.stream.specs.declared.blocks.Taken.{Taken}
 
 -- ---- where a call stands
 
--- how many bytes it took, what is kept, what was put out and the place behind it, and whether it stands behind a bad line, with that line's number
+-- how many bytes it took, what is kept, what was put out and the place behind it, and the number of the bad line that it stands behind, if it does
 pub record Place : Type 0 where
   pub took : ℕ
   pub kept : Kept
   pub out : List ℕ
   pub at : ℕ
-  pub bad : Bool
-  pub which : ℕ
+  pub bad : Option ℕ
 
 abbrev pub place_at : ℕ → Kept → List ℕ → ℕ → Place
-place_at took k out at = record { took = took; kept = k; out = out; at = at; bad = false; which = 0 }
+place_at took k out at = record { took = took; kept = k; out = out; at = at; bad = None }
 
 abbrev pub is_bad : Option Command → Bool
 is_bad (Some c) = false
@@ -51,8 +50,7 @@ behind s l =
       kept = kept_behind k l;
       out = over s.out s.at text;
       at = s.at + length text;
-      bad = is_bad c;
-      which = cond (is_bad c) k.held.number 0;
+      bad = cond (is_bad c) (Some k.held.number) None;
     }
 
 -- behind the last of the block
@@ -70,8 +68,7 @@ keeping s l =
           };
       out = s.out;
       at = s.at;
-      bad = false;
-      which = 0;
+      bad = None;
     }
 
 -- ---- where it stops
@@ -80,7 +77,7 @@ unfoldable pub stop : Place → Lines → Place
 stop s (rest l) = keeping s l
 stop s (line l more) =
     let next = behind s l in
-    let last = cond next.bad next (stop next more) in
+    let last = cond (is_some next.bad) next (stop next more) in
     cond (room_for_longest s.out s.at) last s
 
 -- the memory has its length, and no more is kept than it has
@@ -100,5 +97,4 @@ given s =
       filled = s.at;
       held = s.kept.held;
       bad = s.bad;
-      which = s.which;
     }

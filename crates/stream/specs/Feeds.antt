@@ -1,6 +1,6 @@
 -- Where a line of a block ends, which is what code goes by.
-use Rattle.std.specs.Prelude.{ℕ, suc, ◌+◌, cond, List, [], ◌∷◌, drop, ◌==◌}
-use Rattle.stream.specs.Transcript.{feed}
+use Rattle.std.specs.Prelude.{◌≡◌, ℕ, suc, ◌+◌, cond, List, [], ◌∷◌, length, ◌==◌}
+use Rattle.stream.specs.Transcript.{feed, line, lines_in}
 
 -- how many bytes stand before the first feed; all of them where there is none
 unfoldable pub feed_at : List ℕ → ℕ
@@ -9,6 +9,7 @@ feed_at (b ∷ bs) =
     let more = suc (feed_at bs) in
     cond (b == feed) 0 more
 
--- where the line ends that starts at `from`: its feed, or the block's end
-abbrev pub line_end : List ℕ → ℕ → ℕ
-line_end block from = from + feed_at (drop from block)
+-- the text is the block's first line, and `more` stands behind its feed
+pub record IsFirstLine (block text more : List ℕ) : Type 0 where
+  pub lines : lines_in block ≡ line text (lines_in more)
+  pub size : length block ≡ length text + 1 + length more

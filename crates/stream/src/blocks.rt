@@ -1,4 +1,4 @@
-ghost use Rattle.std.specs.Prelude.{◌≡◌, ◌≤◌, true, false, ◌&&◌, length, drop, ◌≢◌};
+ghost use Rattle.std.specs.Prelude.{◌≡◌, ◌≤◌, ◌-◌, ◌&&◌, length, ◌≢◌};
 ghost use Rattle.script.specs.Command.{command_of};
 ghost use Rattle.response.specs.Response.{bytes_after, place_after, room_for_longest, state_after};
 ghost use Rattle.stream.specs.Blocks.{called, given, is_bad, place_at, stop};
@@ -6,19 +6,18 @@ ghost use Rattle.stream.specs.Kept.{kept_of, line_room, next_number, nothing_of}
 ghost use Rattle.stream.specs.Stands.{Stands};
 ghost use Rattle.stream.specs.Transcript.{lines_in};
 
-use crate::feeds::line_end;
+use crate::feeds::split_line;
 use crate::kept::{Held, LINE_ROOM, keep};
 use response::{RESPONSE_MOST, respond};
 
-// What a call gives back: how many bytes of the block it took, the place behind what it put out, what is kept now, and whether it stopped
-// behind a bad line, with that line's number.
+// What a call gives back: how many bytes of the block it took, the place behind what it put out, what is kept now, and the number of the
+// bad line that it stopped behind, if it did.
 #[derive(Clone, Copy)]
 pub struct Taken {
     pub took: usize,
     pub filled: usize,
     pub held: Held,
-    pub bad: bool,
-    pub which: u64,
+    pub bad: Option<u64>,
 }
 
 // A line obeyed: the place behind what it prints, which stays where there is no room, and whether the line is bad.
@@ -46,21 +45,20 @@ fn end_line(line: &[u8], number: u64, state: &mut [u32], out: &mut [u8], at: usi
 }
 
 // A call that stops at no bad line.
-fn stopped(took: usize, filled: usize, bytes: usize, number: u64) -> Taken
-    ensures { result ≡ record { took = took; filled = filled; held = record { bytes = bytes; number = number }; bad = false; which = 0 } }
+fn stopped(took: usize, filled: usize, held: Held) -> Taken
+    ensures { result ≡ record { took = took; filled = filled; held = held; bad = None } }
 {
     Taken {
         took,
         filled,
-        held: Held { bytes, number },
-        bad: false,
-        which: 0,
+        held,
+        bad: None,
     }
 }
 
 // A call that stops behind a bad line.
 fn behind_bad(took: usize, filled: usize, number: u64) -> Taken
-    ensures { result ≡ record { took = took; filled = filled; held = nothing_of (next_number number); bad = true; which = number } }
+    ensures { result ≡ record { took = took; filled = filled; held = nothing_of (next_number number); bad = Some number } }
 {
     Taken {
         took,
@@ -69,54 +67,61 @@ fn behind_bad(took: usize, filled: usize, number: u64) -> Taken
             bytes: 0,
             number: number.wrapping_add(1),
         },
-        bad: true,
-        which: number,
+        bad: Some(number),
     }
 }
 
-// Takes the lines of a block from `from` on, where nothing is kept.
+// Takes the lines at the end of a block of `size` bytes, where nothing is kept.
 fn take_lines(
     number: u64,
     state: &mut [u32],
     line: &mut [u8],
+    size: usize,
     block: &[u8],
-    from: usize,
     out: &mut [u8],
     at: usize,
 ) -> Taken
-    requires { (from ≤ length block.now) × (length line.old ≡ line_room) }
-    ensures { Stands (stop (place_at from (kept_of (nothing_of number) line.old state.old) out.old at) (lines_in (drop from block.now))) result state.new line.new out.new }
+    requires { (length block.now ≤ size) × (length line.old ≡ line_room) }
+    ensures { Stands (stop (place_at (size - length block.now) (kept_of (nothing_of number) line.old state.old) out.old at) (lines_in block.now)) result state.new line.new out.new }
 {
-    let mut start = from;
+    let mut left = block;
     let mut next = number;
     let mut place = at;
-    let mut end = line_end(block, start);
-    while end < block.len() {
-        let ended = end_line(&block[start..end], next, state, out, place);
-        let behind = ended.place;
-        if behind == place {
-            return stopped(start, place, 0, next);
+    while let Some((text, more)) = split_line(left) {
+        let ended = end_line(text, next, state, out, place);
+        if ended.place == place {
+            return stopped(
+                size - left.len(),
+                place,
+                Held {
+                    bytes: 0,
+                    number: next,
+                },
+            );
         }
-        start = end + 1;
-        place = behind;
+        left = more;
+        place = ended.place;
         if ended.bad {
-            return behind_bad(start, place, next);
+            return behind_bad(size - left.len(), place, next);
         }
         next = next.wrapping_add(1);
-        end = line_end(block, start);
     }
-    let bytes = keep(line, 0, &block[start..]);
-    stopped(end, place, bytes, next)
+    let bytes = keep(line, 0, left);
+    stopped(
+        size,
+        place,
+        Held {
+            bytes,
+            number: next,
+        },
+    )
 }
 
 // Whether there is room for the longest text.
 fn has_room(out: &[u8], at: usize) -> bool
     ensures { result ≡ room_for_longest out.now at }
 {
-    if out.len() < at {
-        return false;
-    }
-    RESPONSE_MOST <= out.len() - at
+    RESPONSE_MOST <= out.len().saturating_sub(at)
 }
 
 // Takes the end of a line of which bytes are kept, and the lines behind it.
@@ -132,25 +137,24 @@ fn take_begun(
     ensures { Stands (stop (place_at 0 (kept_of held line.old state.old) out.old at) (lines_in block.now)) result state.new line.new out.new }
 {
     let number = held.number;
-    let end = line_end(block, 0);
-    if end == block.len() {
+    let Some((text, more)) = split_line(block) else {
         let bytes = keep(line, held.bytes, block);
-        return stopped(end, at, bytes, number);
-    }
+        return stopped(block.len(), at, Held { bytes, number });
+    };
     if !has_room(out, at) {
-        return stopped(0, at, held.bytes, number);
+        return stopped(0, at, held);
     }
-    let bytes = keep(line, held.bytes, &block[..end]);
+    let bytes = keep(line, held.bytes, text);
     let ended = end_line(&line[..bytes], number, state, out, at);
     if ended.bad {
-        return behind_bad(end + 1, ended.place, number);
+        return behind_bad(block.len() - more.len(), ended.place, number);
     }
     take_lines(
         number.wrapping_add(1),
         state,
         line,
-        block,
-        end + 1,
+        block.len(),
+        more,
         out,
         ended.place,
     )
@@ -172,14 +176,11 @@ pub fn take(
     ensures memory { line.new ≡ (called (kept_of held line.old state.old) block.now out.old at).kept.memory }
     ensures words { state.new ≡ (called (kept_of held line.old state.old) block.now out.old at).kept.words }
 {
-    if line.len() != LINE_ROOM {
-        return stopped(0, at, held.bytes, held.number);
-    }
-    if LINE_ROOM < held.bytes {
-        return stopped(0, at, held.bytes, held.number);
+    if line.len() != LINE_ROOM || LINE_ROOM < held.bytes {
+        return stopped(0, at, held);
     }
     if held.bytes == 0 {
-        return take_lines(held.number, state, line, block, 0, out, at);
+        return take_lines(held.number, state, line, block.len(), block, out, at);
     }
     take_begun(held, state, line, block, out, at)
 }

@@ -1,4 +1,4 @@
-ghost use Rattle.std.specs.Prelude.{◌≡◌, ◌≤◌, min, length};
+ghost use Rattle.std.specs.Prelude.{◌≡◌, ◌≤◌, length};
 ghost use Rattle.device.specs.Applied.{applied_state};
 ghost use Rattle.device.specs.declared.event.Event.TheVariants.{Reset};
 ghost use Rattle.print.specs.Writing.{bytes_with, place_with};
@@ -29,25 +29,14 @@ pub fn start(state: &mut [u32]) -> Held
     }
 }
 
-fn fewer(a: usize, b: usize) -> usize
-    ensures { result ≡ min a b }
-{
-    if a <= b {
-        return a;
-    }
-    b
-}
-
 // Puts bytes behind the n that are kept, as many as there is room for. How many are kept then.
 pub(crate) fn keep(line: &mut [u8], n: usize, bytes: &[u8]) -> usize
     requires { (length line.old ≡ line_room) × (n ≤ line_room) }
     ensures value { result ≡ kept_count n bytes.now }
     ensures line_after { line.new ≡ kept_in line.old n bytes.now }
 {
-    let count = fewer(LINE_ROOM - n, bytes.len());
-    for i in 0..count {
-        line[n + i] = bytes[i];
-    }
+    let count = (LINE_ROOM - n).min(bytes.len());
+    line[n..n + count].copy_from_slice(&bytes[..count]);
     n + count
 }
 

@@ -1,5 +1,5 @@
 -- Parts of a run: a call, what is written out, one part behind the other, and the end.
-use Rattle.std.proofs.Common.{◌≡◌, ℕ, ◌+◌, ◌-◌, ◌^◌, ◌<◌, ◌≤◌, Bool, true, false, cond, List, [], ◌∷◌, ◌++◌, length, take, drop, sym, refl, ap, ◌∙◌, append-nil, append_assoc, arith, take-add, take_at, leb-true, subst, eqb}
+use Rattle.std.proofs.Common.{◌≡◌, ℕ, ◌+◌, ◌-◌, ◌^◌, ◌<◌, ◌≤◌, Bool, true, false, cond, is_some, List, [], ◌∷◌, ◌++◌, length, take, drop, sym, refl, ap, ◌∙◌, append-nil, append_assoc, arith, take-add, take_at, leb-true, subst, eqb}
 use Rattle.std.specs.Prelude.{Option, Some, None, Result, Ok, Err, OnOk}
 use Rattle.std.specs.Io.KnownBytes.{Appends, Consumes, Keeps}
 use Rattle.print.specs.Bytes.{bytes}
@@ -65,7 +65,7 @@ put-ended (c ∷ cs) k =
 put-stop : (ls : Lines) (s : Place) → (text : List ℕ) × Put s.out s.at text (stop s ls).out (stop s ls).at
 unfolding stop behind keeping
 put-stop (rest l) s = ([], put-none s.out s.at)
-put-stop (line l more) s = go (room_for_longest s.out s.at) (behind s l).bad refl (put-stop more (behind s l))
+put-stop (line l more) s = go (room_for_longest s.out s.at) (is_some (behind s l).bad) refl (put-stop more (behind s l))
   where
     text : List ℕ
     text = text_of (command_of (whole_line s.kept l)) s.kept.held.number s.kept.words
