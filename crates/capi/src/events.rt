@@ -1,4 +1,4 @@
-ghost use Rattle.std.specs.Prelude.{◌≡◌};
+ghost use Rattle.std.specs.Prelude.{◌≡◌, None};
 ghost use Rattle.access.specs.Answer.{encoded_of};
 ghost use Rattle.device.specs.Applied.{applied_answer, applied_state, line_answer};
 ghost use Rattle.device.specs.declared.event.Event.TheVariants.{Reset};
@@ -7,20 +7,20 @@ ghost use Rattle.capi.specs.Events.{
   asked_state,
   master_event,
   memory_event,
-  nothing,
   peripheral_asked,
   register_asked,
 };
 
-use crate::numbers::{NamedBlock, NamedOperation, block_numbered, operation_numbered};
+use crate::numbers::{block_numbered, operation_numbered};
 use access::{Answer, Cid, Kind, Request, Why};
 use device::{MasterAccess, PeripheralAccess, RegisterAccess};
 use rifsc::{MasterNumber, PeripheralNumber};
 use risaf::GuardNumber;
 
 // The answer where a number stands for nothing: 4, but 8 comes first.
+#[tactic(auto, unfolding(crate::specs::Events::asked_answer))]
 fn nothing(state: &[u32]) -> u64
-    ensures { result ≡ asked_answer nothing state.now }
+    ensures { result ≡ asked_answer None state.now }
 {
     if state.len() == device::STATE_WORDS {
         Answer::Rejected(Why::NoSuch).encoded()
@@ -37,6 +37,7 @@ pub extern "C" fn rif_reset(state: &mut [u32]) -> u64
     device::apply_reset(state).encoded()
 }
 
+#[tactic(auto, unfolding(crate::specs::Events::register_asked, crate::specs::Events::asked_answer, crate::specs::Events::asked_state))]
 #[unsafe(no_mangle)]
 pub extern "C" fn rif_register(
     state: &mut [u32],
@@ -51,7 +52,7 @@ pub extern "C" fn rif_register(
     ensures answer { result ≡ asked_answer (register_asked block guard offset write value secure privileged) state.old }
     ensures next { state.new ≡ asked_state (register_asked block guard offset write value secure privileged) state.old }
 {
-    let NamedBlock::Is(block) = block_numbered(block, guard) else {
+    let Some(block) = block_numbered(block, guard) else {
         return nothing(state);
     };
     let request = Request {
@@ -64,6 +65,7 @@ pub extern "C" fn rif_register(
     device::apply_register(state, RegisterAccess { block, request }).encoded()
 }
 
+#[tactic(auto, unfolding(crate::specs::Events::peripheral_asked, crate::specs::Events::asked_answer, crate::specs::Events::asked_state))]
 #[unsafe(no_mangle)]
 pub extern "C" fn rif_peripheral(
     state: &mut [u32],
@@ -75,7 +77,7 @@ pub extern "C" fn rif_peripheral(
     ensures answer { result ≡ asked_answer (peripheral_asked peripheral operation secure privileged) state.old }
     ensures next { state.new ≡ asked_state (peripheral_asked peripheral operation secure privileged) state.old }
 {
-    let NamedOperation::Does(operation) = operation_numbered(operation) else {
+    let Some(operation) = operation_numbered(operation) else {
         return nothing(state);
     };
     let access = PeripheralAccess {
@@ -87,6 +89,7 @@ pub extern "C" fn rif_peripheral(
     device::apply_peripheral(state, access).encoded()
 }
 
+#[tactic(auto, unfolding(crate::specs::Events::memory_event))]
 #[unsafe(no_mangle)]
 pub extern "C" fn rif_memory(
     state: &mut [u32],
@@ -110,6 +113,7 @@ pub extern "C" fn rif_memory(
     device::memory_encoded(state, GuardNumber(guard), offset, width, kind)
 }
 
+#[tactic(auto, unfolding(crate::specs::Events::master_event))]
 #[unsafe(no_mangle)]
 pub extern "C" fn rif_master(
     state: &mut [u32],
@@ -133,6 +137,7 @@ pub extern "C" fn rif_master(
 }
 
 // The interrupt line. Where the length is known the answer is, and needs no look to be encoded.
+#[tactic(auto, unfolding(device::specs::Applied::line_answer))]
 #[unsafe(no_mangle)]
 pub extern "C" fn rif_line(state: &[u32]) -> u64
     ensures { result ≡ encoded_of (line_answer state.now) }
