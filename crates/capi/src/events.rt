@@ -1,3 +1,5 @@
+#![tactic(auto, unfolding(crate::specs::Events::asked_answer, crate::specs::Events::asked_state, crate::specs::Events::master_event, crate::specs::Events::memory_event, crate::specs::Events::peripheral_asked, crate::specs::Events::register_asked, device::specs::Applied::line_answer))]
+
 ghost use Rattle.std.specs.Prelude.{◌≡◌, None};
 ghost use Rattle.access.specs.Answer.{encoded_of};
 ghost use Rattle.device.specs.Applied.{applied_answer, applied_state, line_answer};
@@ -18,7 +20,6 @@ use rifsc::{MasterNumber, PeripheralNumber};
 use risaf::GuardNumber;
 
 // The answer where a number stands for nothing: 4, but 8 comes first.
-#[tactic(auto, unfolding(crate::specs::Events::asked_answer))]
 fn nothing(state: &[u32]) -> u64
     ensures { result ≡ asked_answer None state.now }
 {
@@ -37,7 +38,6 @@ pub extern "C" fn rif_reset(state: &mut [u32]) -> u64
     device::apply_reset(state).encoded()
 }
 
-#[tactic(auto, unfolding(crate::specs::Events::register_asked, crate::specs::Events::asked_answer, crate::specs::Events::asked_state))]
 #[unsafe(no_mangle)]
 pub extern "C" fn rif_register(
     state: &mut [u32],
@@ -65,7 +65,6 @@ pub extern "C" fn rif_register(
     device::apply_register(state, RegisterAccess { block, request }).encoded()
 }
 
-#[tactic(auto, unfolding(crate::specs::Events::peripheral_asked, crate::specs::Events::asked_answer, crate::specs::Events::asked_state))]
 #[unsafe(no_mangle)]
 pub extern "C" fn rif_peripheral(
     state: &mut [u32],
@@ -89,7 +88,6 @@ pub extern "C" fn rif_peripheral(
     device::apply_peripheral(state, access).encoded()
 }
 
-#[tactic(auto, unfolding(crate::specs::Events::memory_event))]
 #[unsafe(no_mangle)]
 pub extern "C" fn rif_memory(
     state: &mut [u32],
@@ -113,7 +111,6 @@ pub extern "C" fn rif_memory(
     device::memory_encoded(state, GuardNumber(guard), offset, width, kind)
 }
 
-#[tactic(auto, unfolding(crate::specs::Events::master_event))]
 #[unsafe(no_mangle)]
 pub extern "C" fn rif_master(
     state: &mut [u32],
@@ -137,7 +134,6 @@ pub extern "C" fn rif_master(
 }
 
 // The interrupt line. Where the length is known the answer is, and needs no look to be encoded.
-#[tactic(auto, unfolding(device::specs::Applied::line_answer))]
 #[unsafe(no_mangle)]
 pub extern "C" fn rif_line(state: &[u32]) -> u64
     ensures { result ≡ encoded_of (line_answer state.now) }

@@ -1,4 +1,6 @@
 // What a number of a call stands for.
+#![tactic(auto, unfolding(crate::specs::Numbers::block_numbered, crate::specs::Numbers::operation_numbered))]
+
 ghost use Rattle.std.specs.Prelude.{◌≡◌};
 ghost use Rattle.capi.specs.Numbers.{block_numbered, operation_numbered};
 
@@ -6,7 +8,6 @@ use device::{Block, Operation};
 use risaf::GuardNumber;
 
 // Block 2 is the RISAF that the guard's number says.
-#[tactic(auto, unfolding(crate::specs::Numbers::block_numbered))]
 pub(crate) fn block_numbered(block: u32, guard: u32) -> Option<Block>
     ensures { result ≡ block_numbered block guard }
 {
@@ -18,7 +19,6 @@ pub(crate) fn block_numbered(block: u32, guard: u32) -> Option<Block>
     }
 }
 
-#[tactic(auto, unfolding(crate::specs::Numbers::operation_numbered))]
 pub(crate) fn operation_numbered(operation: u32) -> Option<Operation>
     ensures { result ≡ operation_numbered operation }
 {
