@@ -13,8 +13,9 @@ use Rattle.access.specs.Answer.{encoded_of}
 use Rattle.access.specs.Kind.{kind_of}
 use Rattle.device.specs.Applied.{sized, applied_answer, applied_state}
 use Rattle.batch.specs.Batch.{fits, applied, applied_answers, batched, batch_state, batch_answers}
-use Rattle.batch.specs.declared.batches.Batched.{Batched}
-use Rattle.batch.specs.declared.batches.Batched.TheVariants.{Done, WrongLength}
+use Rattle.access.specs.declared.answer.Answer.{Answer}
+use Rattle.access.specs.declared.answer.Answer.TheVariants.{Done, Rejected}
+use Rattle.access.specs.declared.answer.Why.TheVariants.{WrongLength}
 use Rattle.device.specs.Layout.{state_words}
 use Rattle.device.specs.declared.event.MemoryAccess.{MemoryAccess}
 use Rattle.device.specs.declared.event.Event.TheVariants.{Memory}
@@ -49,7 +50,7 @@ Does y i st an st' an' =
 -- a batch from the memories st₀ and an₀
 module _ (st₀ : List ℕ) (ys : List MemoryAccess) (an₀ : List ℕ) where
   -- what it ensures of its answer and of the two memories
-  abbrev pub Ensured : Batched → (st an : List ℕ) → Type 0
+  abbrev pub Ensured : Answer → (st an : List ℕ) → Type 0
   Ensured r st an =
       (r ≡ batched st₀ ys an₀) × ((st ≡ batch_state st₀ ys an₀) × (an ≡ batch_answers st₀ ys an₀))
 
@@ -90,6 +91,6 @@ module _ (st₀ : List ℕ) (ys : List MemoryAccess) (an₀ : List ℕ) where
       ∙ ap (λ n. coded ys st₀ ++ drop n an₀) long in
       simp f (refl, (state, stored))
 
-  pub none_done : fits st₀ ys an₀ ≡ false → Ensured WrongLength st₀ an₀
+  pub none_done : fits st₀ ys an₀ ≡ false → Ensured (Rejected WrongLength) st₀ an₀
   unfolding batched batch_state batch_answers
   none_done f = simp f (refl, (refl, refl))

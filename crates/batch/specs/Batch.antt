@@ -2,19 +2,12 @@
 use Rattle.std.specs.Prelude.{Bool, ◌&&◌, cond, List, [], ◌∷◌, ◌++◌, map, ℕ, leb, length, drop}
 use Rattle.access.specs.Answer.{encoded_of}
 use Rattle.access.specs.declared.answer.Answer.{Answer}
-use Rattle.access.specs.declared.answer.Answer.TheVariants as answer
-use Rattle.access.specs.declared.answer.Why.TheVariants as why
+use Rattle.access.specs.declared.answer.Answer.TheVariants.{Done, Rejected}
+use Rattle.access.specs.declared.answer.Why.TheVariants.{WrongLength}
 use Rattle.device.specs.Applied.{sized, applied_answer, applied_state}
 use Rattle.device.specs.declared.event.Event.{Event}
 use Rattle.device.specs.declared.event.MemoryAccess.{MemoryAccess}
 use Rattle.device.specs.declared.event.Event.TheVariants.{Memory}
-use Rattle.batch.specs.declared.batches.Batched.{Batched}
-use Rattle.batch.specs.declared.batches.Batched.TheVariants.{Done, WrongLength}
-
--- how a batch ends is an answer
-abbrev pub end_answer : Batched → Answer
-end_answer (Done v) = answer.Done v
-end_answer WrongLength = answer.Rejected why.WrongLength
 
 -- ---- events one after the other, each by `apply`: what they leave in lent memory, and the answer to each
 
@@ -32,8 +25,8 @@ applied_answers (e ∷ es) m = applied_answer e m ∷ applied_answers es (applie
 abbrev pub fits : List ℕ → List MemoryAccess → List ℕ → Bool
 fits m list places = sized m && leb (length list) (length places)
 
-unfoldable pub batched : List ℕ → List MemoryAccess → List ℕ → Batched
-batched m list places = cond (fits m list places) (Done 0) WrongLength
+unfoldable pub batched : List ℕ → List MemoryAccess → List ℕ → Answer
+batched m list places = cond (fits m list places) (Done 0) (Rejected WrongLength)
 
 unfoldable pub batch_state : List ℕ → List MemoryAccess → List ℕ → List ℕ
 batch_state m list places = cond (fits m list places) (applied (map Memory list) m) m

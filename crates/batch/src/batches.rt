@@ -1,31 +1,12 @@
 ghost use Rattle.std.specs.Prelude.{◌≡◌, ◌<◌, ◌&&◌, eqb, leb, length, set};
 ghost use Rattle.access.specs.Answer.{encoded_of};
-ghost use Rattle.batch.specs.Batch.{end_answer, batch_answers, batch_state, batched};
+ghost use Rattle.batch.specs.Batch.{batch_answers, batch_state, batched};
 ghost use Rattle.device.specs.Applied.{applied_answer, applied_state};
 ghost use Rattle.device.specs.Layout.{state_words};
 ghost use Rattle.device.specs.declared.event.Event.TheVariants.{Memory};
 
 use access::{Answer, Why};
 use device::{MemoryAccess, STATE_WORDS};
-
-// How a batch ends: an Answer that holds no enum.
-#[derive(Clone, Copy)]
-pub enum Batched {
-    Done(u32),
-    WrongLength,
-}
-
-impl Batched {
-    // The answer in memory and in C.
-    pub fn encoded(self) -> u64
-        ensures { result ≡ encoded_of (end_answer self) }
-    {
-        match self {
-            Batched::Done(value) => Answer::Done(value).encoded(),
-            Batched::WrongLength => Answer::Rejected(Why::WrongLength).encoded(),
-        }
-    }
-}
 
 // Whether a batch is done: the state has its length, and each access a place for its answer.
 fn fits(words: usize, accesses: usize, places: usize) -> bool
@@ -45,19 +26,16 @@ fn one(state: &mut [u32], answers: &mut [u64], i: usize, a: MemoryAccess)
 }
 
 // A batch of memory accesses, one after the other: answer i is to access i. Where lent memory is of the wrong length none of them is done.
-pub fn batch(state: &mut [u32], list: &[MemoryAccess], answers: &mut [u64]) -> Batched
+pub fn batch(state: &mut [u32], list: &[MemoryAccess], answers: &mut [u64]) -> Answer
     ensures answer { result ≡ batched state.old list.now answers.old }
     ensures next { state.new ≡ batch_state state.old list.now answers.old }
     ensures answers { answers.new ≡ batch_answers state.old list.now answers.old }
 {
-    let n = list.len();
-    if !fits(state.len(), n, answers.len()) {
-        return Batched::WrongLength;
+    if !fits(state.len(), list.len(), answers.len()) {
+        return Answer::Rejected(Why::WrongLength);
     }
-    let mut i: usize = 0;
-    while i < n {
+    for i in 0..list.len() {
         one(state, answers, i, list[i]);
-        i += 1;
     }
-    Batched::Done(0)
+    Answer::Done(0)
 }

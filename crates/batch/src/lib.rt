@@ -3,4 +3,4 @@
 
 pub mod batches;
 
-pub use batches::{Batched, batch};
+pub use batches::batch;

@@ -1,5 +1,5 @@
 -- The events that the numbers of a call from C ask for. The arguments are those of the header, in its order.
-use Rattle.std.specs.Prelude.{Bool, cond, List, ℕ}
+use Rattle.std.specs.Prelude.{Bool, cond, List, ℕ, Option, Some, None}
 use Rattle.access.specs.Answer.{encoded_of}
 use Rattle.access.specs.declared.answer.Answer.TheVariants.{Rejected}
 use Rattle.access.specs.declared.answer.Why.TheVariants.{NoSuch, WrongLength}
@@ -7,48 +7,42 @@ use Rattle.device.specs.Applied.{sized, applied_answer, applied_state}
 use Rattle.device.specs.declared.event.Event.{Event}
 use Rattle.device.specs.declared.event.Event.TheVariants.{Register, Peripheral, Memory, Master}
 use Rattle.capi.specs.Numbers.{block_numbered, operation_numbered}
-use Rattle.capi.specs.declared.numbers.NamedBlock.{NamedBlock}
-use Rattle.capi.specs.declared.numbers.NamedBlock.TheVariants.{Is, NoBlock}
-use Rattle.capi.specs.declared.numbers.NamedOperation.{NamedOperation}
-use Rattle.capi.specs.declared.numbers.NamedOperation.TheVariants.{Does, NoOperation}
+use Rattle.device.specs.declared.event.Block.{Block}
+use Rattle.device.specs.declared.event.Operation.{Operation}
 
 -- ---- what is asked for: an event, or nothing, where a number stands for no block or for no operation
 
-pub data Asked : Type 0 where
-  event : Event → Asked
-  nothing : Asked
-
-unfoldable pub register_asked : ℕ → ℕ → ℕ → Bool → ℕ → Bool → Bool → Asked
+unfoldable pub register_asked : ℕ → ℕ → ℕ → Bool → ℕ → Bool → Bool → Option Event
 register_asked block guard offset write value secure privileged = at (block_numbered block guard)
   where
-    at : NamedBlock → Asked
-    at (Is b) =
-        event
+    at : Option Block → Option Event
+    at (Some b) =
+        Some
         (Register
         (record {
           block = b;
           request = record { offset = offset; write = write; value = value; secure = secure; privileged = privileged };
         }))
-    at NoBlock = nothing
+    at None = None
 
-unfoldable pub peripheral_asked : ℕ → ℕ → Bool → Bool → Asked
+unfoldable pub peripheral_asked : ℕ → ℕ → Bool → Bool → Option Event
 peripheral_asked peripheral operation secure privileged = to (operation_numbered operation)
   where
-    to : NamedOperation → Asked
-    to (Does o) =
-        event
+    to : Option Operation → Option Event
+    to (Some o) =
+        Some
         (Peripheral
         (record { peripheral = record { 0 = peripheral }; operation = o; secure = secure; privileged = privileged }))
-    to NoOperation = nothing
+    to None = None
 
 -- its answer, as C has it: 4 to nothing, but 8 comes first
-unfoldable pub asked_answer : Asked → List ℕ → ℕ
-asked_answer (event e) m = encoded_of (applied_answer e m)
-asked_answer nothing m = encoded_of (Rejected (cond (sized m) NoSuch WrongLength))
+unfoldable pub asked_answer : Option Event → List ℕ → ℕ
+asked_answer (Some e) m = encoded_of (applied_answer e m)
+asked_answer None m = encoded_of (Rejected (cond (sized m) NoSuch WrongLength))
 
-unfoldable pub asked_state : Asked → List ℕ → List ℕ
-asked_state (event e) m = applied_state e m
-asked_state nothing m = m
+unfoldable pub asked_state : Option Event → List ℕ → List ℕ
+asked_state (Some e) m = applied_state e m
+asked_state None m = m
 
 -- ---- events whose numbers all stand for something
 

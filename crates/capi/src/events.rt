@@ -1,4 +1,6 @@
-ghost use Rattle.std.specs.Prelude.{◌≡◌};
+#![tactic(auto, unfolding(crate::specs::Events::asked_answer, crate::specs::Events::asked_state, crate::specs::Events::master_event, crate::specs::Events::memory_event, crate::specs::Events::peripheral_asked, crate::specs::Events::register_asked, device::specs::Applied::line_answer))]
+
+ghost use Rattle.std.specs.Prelude.{◌≡◌, None};
 ghost use Rattle.access.specs.Answer.{encoded_of};
 ghost use Rattle.device.specs.Applied.{applied_answer, applied_state, line_answer};
 ghost use Rattle.device.specs.declared.event.Event.TheVariants.{Reset};
@@ -7,12 +9,11 @@ ghost use Rattle.capi.specs.Events.{
   asked_state,
   master_event,
   memory_event,
-  nothing,
   peripheral_asked,
   register_asked,
 };
 
-use crate::numbers::{NamedBlock, NamedOperation, block_numbered, operation_numbered};
+use crate::numbers::{block_numbered, operation_numbered};
 use access::{Answer, Cid, Kind, Request, Why};
 use device::{MasterAccess, PeripheralAccess, RegisterAccess};
 use rifsc::{MasterNumber, PeripheralNumber};
@@ -20,7 +21,7 @@ use risaf::GuardNumber;
 
 // The answer where a number stands for nothing: 4, but 8 comes first.
 fn nothing(state: &[u32]) -> u64
-    ensures { result ≡ asked_answer nothing state.now }
+    ensures { result ≡ asked_answer None state.now }
 {
     if state.len() == device::STATE_WORDS {
         Answer::Rejected(Why::NoSuch).encoded()
@@ -51,7 +52,7 @@ pub extern "C" fn rif_register(
     ensures answer { result ≡ asked_answer (register_asked block guard offset write value secure privileged) state.old }
     ensures next { state.new ≡ asked_state (register_asked block guard offset write value secure privileged) state.old }
 {
-    let NamedBlock::Is(block) = block_numbered(block, guard) else {
+    let Some(block) = block_numbered(block, guard) else {
         return nothing(state);
     };
     let request = Request {
@@ -75,7 +76,7 @@ pub extern "C" fn rif_peripheral(
     ensures answer { result ≡ asked_answer (peripheral_asked peripheral operation secure privileged) state.old }
     ensures next { state.new ≡ asked_state (peripheral_asked peripheral operation secure privileged) state.old }
 {
-    let NamedOperation::Does(operation) = operation_numbered(operation) else {
+    let Some(operation) = operation_numbered(operation) else {
         return nothing(state);
     };
     let access = PeripheralAccess {

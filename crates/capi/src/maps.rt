@@ -14,9 +14,8 @@ pub extern "C" fn rif_map(state: &[u32], guard: u32, numbers: &mut [u64], used: 
     ensures count { used.new ≡ fill_used state.now guard numbers.old }
 {
     let filled = map::fill::fill(state, GuardNumber(guard), numbers);
-    *used = filled.used as u64;
-    let answer = filled.answer;
-    answer.encoded()
+    *used = filled.unwrap_or(0) as u64;
+    map::answer(filled).encoded()
 }
 
 // The row that encloses an offset, where there is one: the three numbers, and their count given back.
@@ -55,8 +54,7 @@ pub extern "C" fn rif_diff(
     ensures rows { numbers.new ≡ diff_numbers guard before.now after.now numbers.old }
     ensures count { used.new ≡ diff_used guard before.now after.now numbers.old }
 {
-    let result = diff::fill::fill(GuardNumber(guard), before, after, numbers);
-    *used = result.used as u64;
-    let answer = result.answer;
-    answer.encoded()
+    let filled = diff::fill::fill(GuardNumber(guard), before, after, numbers);
+    *used = filled.unwrap_or(0) as u64;
+    diff::answer(filled).encoded()
 }

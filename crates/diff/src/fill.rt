@@ -1,10 +1,10 @@
 ghost use Rattle.std.specs.Prelude.{◌≡◌};
 ghost use Rattle.diff.specs.Fill.{diff_answer, diff_numbers, diff_used, map_sized};
+ghost use Rattle.map.specs.Fill.{answer_of, used_of};
 
 use crate::lent::tiles;
 use crate::walk::walk;
-use access::{Answer, Why};
-use map::Filled;
+use access::Why;
 use risaf::GuardNumber;
 
 // A row is five numbers: start, end, old, new, count. Two maps have so many rows at most, since both end together.
@@ -21,31 +21,26 @@ fn map_sized(map: &[u64]) -> bool
     (map.len() <= map::fill::LEAST_ROOM) & (map.len() % map::fill::ROW_NUMBERS == 0)
 }
 
-// Fills lent memory with what differs between two maps of a guard. What it does not use stays as it was; on refusal all of it does.
-pub fn fill(guard: GuardNumber, before: &[u64], after: &[u64], numbers: &mut [u64]) -> Filled
-    ensures answer_value { result.answer ≡ diff_answer guard.0 before.now after.now numbers.old }
-    ensures used_value { result.used ≡ diff_used guard.0 before.now after.now numbers.old }
+// Fills lent memory with what differs between two maps of a guard: how many numbers are used, or why none are. What it does not use
+// stays as it was; on refusal all of it does.
+pub fn fill(
+    guard: GuardNumber,
+    before: &[u64],
+    after: &[u64],
+    numbers: &mut [u64],
+) -> Result<usize, Why>
+    ensures answer_value { answer_of result ≡ diff_answer guard.0 before.now after.now numbers.old }
+    ensures used_value { used_of result ≡ diff_used guard.0 before.now after.now numbers.old }
     ensures numbers_after { numbers.new ≡ diff_numbers guard.0 before.now after.now numbers.old }
 {
     let long = LEAST_ROOM <= numbers.len();
     if !(long & map_sized(before) & map_sized(after)) {
-        return Filled {
-            answer: Answer::Rejected(Why::WrongLength),
-            used: 0,
-        };
+        return Err(Why::WrongLength);
     }
     let shape = guard.shape();
     let window = shape.window;
     if !(shape.there & tiles(before, window) & tiles(after, window)) {
-        return Filled {
-            answer: Answer::Rejected(Why::NoSuch),
-            used: 0,
-        };
+        return Err(Why::NoSuch);
     }
-    let count = walk(before, after, window, numbers);
-    let used = ROW_NUMBERS * count;
-    Filled {
-        answer: Answer::Done(0),
-        used,
-    }
+    Ok(ROW_NUMBERS * walk(before, after, window, numbers))
 }

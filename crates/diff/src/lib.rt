@@ -7,4 +7,4 @@ mod lent;
 mod put;
 mod walk;
 
-pub use map::{Filled, used_part};
+pub use map::{answer, used_part};

@@ -3,7 +3,7 @@ ghost use Rattle.regions.specs.Rights.{rights_word};
 ghost use Rattle.regions.specs.Words.{base, most_regions};
 ghost use Rattle.spans.specs.Map.{map_of};
 ghost use Rattle.spans.specs.Rows.{filled, size};
-ghost use Rattle.map.specs.Fill.{fill_answer, fill_numbers, fill_used, least_room};
+ghost use Rattle.map.specs.Fill.{answer_of, fill_answer, fill_numbers, fill_used, least_room, used_of};
 
 use access::{Answer, Bus, Why};
 use device::{STATE_WORDS, region_words};
@@ -17,13 +17,6 @@ pub const ROW_NUMBERS: usize = 3;
 pub const MOST_ROWS: usize = 67;
 
 pub const LEAST_ROOM: usize = ROW_NUMBERS * MOST_ROWS;
-
-// What filling lent memory with a map gives: the answer, and how many numbers are used.
-#[derive(Clone, Copy)]
-pub struct Filled {
-    pub answer: Answer,
-    pub used: usize,
-}
 
 // The map of what n base regions give, over the front of lent memory, and its count of rows: from boundary to boundary, a span
 // with the rights at its start. They are those of the active base regions, up to the next START.
@@ -49,37 +42,31 @@ fn sweep(bus: Bus, w: &[u32], n: usize, window: u64, lent: &mut [u64]) -> usize
     count
 }
 
-// Fills lent memory with the map of a guard. What it does not use stays as it was; on refusal all of it does.
-pub fn fill(state: &[u32], guard: GuardNumber, buffer: &mut [u64]) -> Filled
-    ensures answer_value { result.answer ≡ fill_answer state.now guard.0 buffer.old }
-    ensures used_value { result.used ≡ fill_used state.now guard.0 buffer.old }
+// The answer to a call that fills lent memory.
+pub fn answer(filled: Result<usize, Why>) -> Answer
+    ensures { result ≡ answer_of filled }
+{
+    match filled {
+        Ok(_) => Answer::Done(0),
+        Err(why) => Answer::Rejected(why),
+    }
+}
+
+// Fills lent memory with the map of a guard: how many numbers are used, or why none are. What it does not use stays as it was; on
+// refusal all of it does.
+pub fn fill(state: &[u32], guard: GuardNumber, buffer: &mut [u64]) -> Result<usize, Why>
+    ensures answer_value { answer_of result ≡ fill_answer state.now guard.0 buffer.old }
+    ensures used_value { used_of result ≡ fill_used state.now guard.0 buffer.old }
     ensures buffer_after { buffer.new ≡ fill_numbers state.now guard.0 buffer.old }
 {
-    if state.len() != STATE_WORDS {
-        return Filled {
-            answer: Answer::Rejected(Why::WrongLength),
-            used: 0,
-        };
-    }
-    if buffer.len() < LEAST_ROOM {
-        return Filled {
-            answer: Answer::Rejected(Why::WrongLength),
-            used: 0,
-        };
+    if state.len() != STATE_WORDS || buffer.len() < LEAST_ROOM {
+        return Err(Why::WrongLength);
     }
     let shape = guard.shape();
     if !shape.there {
-        return Filled {
-            answer: Answer::Rejected(Why::NoSuch),
-            used: 0,
-        };
+        return Err(Why::NoSuch);
     }
     let w = region_words(state, shape.place);
-    let bus = shape.bus;
-    let count = sweep(bus, w, shape.regions, shape.window, buffer);
-    let used = ROW_NUMBERS * count;
-    Filled {
-        answer: Answer::Done(0),
-        used,
-    }
+    let count = sweep(shape.bus, w, shape.regions, shape.window, buffer);
+    Ok(ROW_NUMBERS * count)
 }

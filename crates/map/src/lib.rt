@@ -4,6 +4,6 @@
 pub mod fill;
 pub mod part;
 
-pub use fill::Filled;
+pub use fill::answer;
 pub use part::used_part;
 pub use spans::lookup;

@@ -64,7 +64,7 @@ fn put_filled(
     ensures { Wrote out.old at (map_text state.now guard.0) out.new result }
 {
     let filled = map::fill::fill(state, guard, lent);
-    let answer = filled.answer;
+    let answer = map::answer(filled);
     if answer.number() != 0 {
         return put_answer(out, at, answer);
     }

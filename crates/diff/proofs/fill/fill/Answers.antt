@@ -20,19 +20,19 @@ returns-then-not-shape-tiles c =
     c.shape-shape.ensures c.tiles.ensures c.tiles-2.ensures (ap not c.if-not-shape-tiles.true) in
     record { answer_value = all.0; used_value = all.1.0; numbers_after = all.1.1 }
 
-pub walk-count-requires : goal.walk-count-requires
-walk-count-requires c =
+pub walk-requires : goal.walk-requires
+walk-requires c =
     let a = c.args in
     walkable a.guard.0 a.before.now a.after.now a.numbers.now
     c.map_sized.ensures c.map_sized-2.ensures (ap not c.if-not-long-map_sized.false)
     c.shape-shape.ensures c.tiles.ensures c.tiles-2.ensures (ap not c.if-not-shape-tiles.false)
 
-pub overflow_mul-used : goal.overflow_mul-used
-overflow_mul-used c =
+pub overflow_mul-result : goal.overflow_mul-result
+overflow_mul-result c =
     let a = c.args in
     omega (
       arith,
-      c.walk-count.ensures.value,
+      c.walk.ensures.value,
       few a.guard.0 a.before.now a.after.now a.numbers.now
           c.map_sized.ensures c.map_sized-2.ensures (ap not c.if-not-long-map_sized.false)
           c.shape-shape.ensures c.tiles.ensures c.tiles-2.ensures (ap not c.if-not-shape-tiles.false),
@@ -44,5 +44,5 @@ returns c =
     let all = made a.guard.0 a.before.now a.after.now a.numbers.now
     c.map_sized.ensures c.map_sized-2.ensures (ap not c.if-not-long-map_sized.false)
     c.shape-shape.ensures c.tiles.ensures c.tiles-2.ensures (ap not c.if-not-shape-tiles.false)
-    c.walk-count.ensures.value c.walk-count.ensures.lent_after in
+    c.walk.ensures.value c.walk.ensures.lent_after in
     record { answer_value = all.0; used_value = all.1.0; numbers_after = all.1.1 }

@@ -8,18 +8,18 @@ use Rattle.map.proofs.Guards.{passed, small, guard-regions}
 use Rattle.map.proofs.Made.{sweepable, made}
 use Rattle.map.proofs.Steady.{size-most}
 use Rattle.map.proofs.fill.fill.Goals as goal
+use Rattle.map.proofs.fill.fill.Goals.{then-state-ne-STATE_WORDS-via-then-state-ne-STATE_WORDS, then-state-ne-STATE_WORDS-via-else-state-ne-STATE_WORDS+then-buffer-lt-LEAST_ROOM}
 
 pub returns-then-state-ne-STATE_WORDS : goal.returns-then-state-ne-STATE_WORDS
 unfolding fill_answer fill_used fill_numbers
 returns-then-state-ne-STATE_WORDS c =
-    simp (ne_eqb _ _ c.if-state-ne-STATE_WORDS.true)
-    (record { answer_value = refl; used_value = refl; buffer_after = refl })
-
-pub returns-then-buffer-lt-LEAST_ROOM : goal.returns-then-buffer-lt-LEAST_ROOM
-unfolding fill_answer fill_used fill_numbers
-returns-then-buffer-lt-LEAST_ROOM c =
-    simp (eq-eqb _ _ c.if-state-ne-STATE_WORDS.false, lt-leb _ _ c.if-buffer-lt-LEAST_ROOM.true)
-    (record { answer_value = refl; used_value = refl; buffer_after = refl })
+    elim c.then-state-ne-STATE_WORDS.branch [
+      | then-state-ne-STATE_WORDS-via-then-state-ne-STATE_WORDS w ↦
+          simp (ne_eqb _ _ w.if-state-ne-STATE_WORDS.true) (record { answer_value = refl; used_value = refl; buffer_after = refl })
+      | then-state-ne-STATE_WORDS-via-else-state-ne-STATE_WORDS+then-buffer-lt-LEAST_ROOM w ↦
+          simp (eq-eqb _ _ w.if-state-ne-STATE_WORDS.false, lt-leb _ _ w.if-buffer-lt-LEAST_ROOM.true)
+          (record { answer_value = refl; used_value = refl; buffer_after = refl })
+    ]
 
 pub returns-then-not-shape : goal.returns-then-not-shape
 unfolding fill_answer fill_used fill_numbers
@@ -40,8 +40,8 @@ sweep-count-requires c =
     (passed (ap (λ (x : Shape). x.there) c.shape-shape.ensures) c.if-not-shape.false) s
     (c.region_words-w.ensures ∙ rw c.shape-shape.ensures (guard-regions a.state.now a.guard.0 c.if-state-ne-STATE_WORDS.false))
 
-pub overflow_mul-used : goal.overflow_mul-used
-overflow_mul-used c =
+pub overflow_mul-result : goal.overflow_mul-result
+overflow_mul-result c =
     let s = c.shape-shape in
     let n = c.args.guard.0 in
     omega (

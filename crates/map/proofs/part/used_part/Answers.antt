@@ -10,8 +10,8 @@ slice_bounds-result-end c = sym (length-take-le _ c.args.buffer.now c.if-used-bu
 
 pub returns-then-used-buffer : goal.returns-then-used-buffer
 unfolding used_part
-returns-then-used-buffer c = simp (le-leb _ _ c.if-used-buffer.true)
+returns-then-used-buffer c = rw (← c.unwrap_or-used.ensures) (simp (le-leb _ _ c.if-used-buffer.true))
 
 pub returns : goal.returns
 unfolding used_part
-returns c = simp (lt-leb _ _ c.if-used-buffer.false)
+returns c = rw (← c.unwrap_or-used.ensures) (simp (lt-leb _ _ c.if-used-buffer.false))
