@@ -1,13 +1,16 @@
 use mathlib.Core.Path.{ap, ◌∙◌}
 use Prim.Native.Nat.{◌<◌}
-use lib.ListN.{length}
+use native.Mathlib.Omega.{arith}
+use lib.ListN.{length, drop}
+use Rattle.risaf.specs.Contents.{head_words}
+use Rattle.std.proofs.lemmas.Slice.{between_to_end}
 use Rattle.risaf.specs.Guards.{guard_count}
 use Rattle.risaf.specs.Memory.{faulted}
 use Rattle.risaf.proofs.Shapes.{place-lt}
 use Rattle.device.specs.Layout.{state_of}
 use Rattle.device.specs.State.{flagged}
 use Rattle.device.proofs.GuardSteps.{memory-rejected, memory-granted, memory-refused}
-use Rattle.device.proofs.GuardLayout.{regions-read, regions-length}
+use Rattle.device.proofs.GuardLayout.{regions-length}
 use Rattle.device.proofs.memory.access_memory.Goals as goal
 
 pub returns-in_default : goal.returns-in_default
@@ -23,10 +26,14 @@ returns-then-verdict-eq-NO_REASON c =
     let a = c.args in
     let es = c.shape-shape.ensures in
     let l : c.shape-shape.result.place < guard_count = rw es (place-lt _) in
-    let ew = c.region_words.ensures ∙ regions-read a.state.now _ c.told-state l in
+    let ew = between_to_end c.load_words-words.result.now head_words _ (omega arith) ∙ ap (drop head_words) c.load_words-words.ensures in
     let all = memory-granted (state_of a.state.now) a.there a.guard.0 a.o a.width a.k es c.memory_checked-checked.ensures
     c.in-Done.is ew (ap length ew ∙ regions-length a.state.now _ c.told-state l) c.decide-verdict.ensures c.if-verdict-eq-NO_REASON.true in
     record { answer = all.0; next = all.1 }
+
+pub load_words-words-requires : goal.load_words-words-requires
+load_words-words-requires c =
+    rw c.shape-shape.ensures (place-lt _)
 
 pub load_faults-requires : goal.load_faults-requires
 load_faults-requires c =
@@ -42,7 +49,7 @@ returns c =
     let a = c.args in
     let es = c.shape-shape.ensures in
     let l : c.shape-shape.result.place < guard_count = rw es (place-lt _) in
-    let ew = c.region_words.ensures ∙ regions-read a.state.now _ c.told-state l in
+    let ew = between_to_end c.load_words-words.result.now head_words _ (omega arith) ∙ ap (drop head_words) c.load_words-words.ensures in
     let all = memory-refused (state_of a.state.now) a.there a.guard.0 a.o a.width a.k es c.memory_checked-checked.ensures
     c.in-Done.is ew (ap length ew ∙ regions-length a.state.now _ c.told-state l) c.decide-verdict.ensures c.if-verdict-eq-NO_REASON.false
     (c.raise.ensures
