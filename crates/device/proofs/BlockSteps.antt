@@ -1,7 +1,6 @@
 -- A register access to the controller or to the IAC, by what the code's calls give.
 use mathlib.Core.Bool.{Bool, true, false, cond}
 use mathlib.Core.Path.{◌≡◌, refl, sym, ap, ◌∙◌}
-use mathlib.Core.List.{[], ◌∷◌}
 use Prim.Native.Nat.{ℕ, ◌%◌}
 use lib.Dec.{eqb}
 use borrow.Author.Tests.{ne_eqb}

@@ -5,7 +5,7 @@ use Prim.Native.Nat.{ℕ, ◌+◌, ◌*◌, ◌<◌}
 use native.Mathlib.Omega.{arith}
 use borrow.Author.Tests.{eq-eqb, lt-ltb}
 use lib.ListN.{length, length-map, length-set, take, drop, get_or, set, length-drop, length-replicate, get_or-replicate, get_or-map}
-use lib.Seq.{paste, set-get_or, set-set, get_or-set_same, drop-set-add, drop-drop, length-take-le, get_or-take, get_or-drop}
+use lib.Seq.{paste, set-get_or, set-set, get_or-set_same, drop-set-add, drop-drop, length-take-le}
 use Rattle.risaf.specs.Contents.{head_words, regions_words, guard_size, guard_words, guard_from, with_word}
 use Rattle.risaf.specs.Guards.{guard_count}
 use Rattle.risaf.specs.declared.contents.Guard.{Guard}
@@ -86,13 +86,6 @@ unfolding with_word
 word-stored m p i v h l k =
     in-state (in-more i v l k (in-none m p h))
     ∙ ap (λ (w : List ℕ). with_guard_at (state_of m) p (guard_from (set w i v))) (guard-part m p l ∙ sym (guard-words m p h l))
-
--- one word of a guard
-pub word_read : (m : List ℕ) (p i : ℕ) → length m ≡ state_words → p < guard_count → i < guard_size
-    → get_or (guard_words (guard_at (state_of m) p)) i 0 ≡ get_or m (guards_at + guard_size * p + i) 0
-word_read m p i h l k =
-    ap (λ (w : List ℕ). get_or w i 0) (guard-words m p h l) ∙ get_or-take guard_size (drop (guards_at + guard_size * p) m) i 0 k
-    ∙ get_or-drop (guards_at + guard_size * p) m i 0
 
 -- ---- a guard changed more than once
 

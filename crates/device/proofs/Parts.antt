@@ -1,11 +1,11 @@
 -- Words in parts of any sizes: joined again, one part found, one part or one word of it stored.
-use mathlib.Core.List.{List, [], ◌∷◌, ◌++◌, map, append_assoc, append-nil}
+use mathlib.Core.List.{List, [], ◌∷◌, ◌++◌, map, append_assoc}
 use mathlib.Core.Path.{◌≡◌, refl, sym, ap, ap₂, ◌∙◌}
 use Prim.Native.Nat.{ℕ, zero, suc, ◌+◌, ◌-◌, ◌*◌, ◌≤◌, ◌<◌}
 use native.Mathlib.Numerals.{add-one}
 use native.Mathlib.Omega.{arith}
-use lib.ListN.{length, take, drop, get_or, set, replicate, length-take, length-drop, length-replicate}
-use lib.Seq.{append_snoc, set_split, paste, paste-suc, drop-paste, drop-length, take_at, drop_at, take-length, take-nil, drop-nil, length-take-le, drop-drop, take-take, take-append-le, drop-append-le, take-set-le, take-set-lt, drop-set-lt, drop-set-add, take-add}
+use lib.ListN.{length, take, drop, get_or, set, replicate, length-take, length-drop}
+use lib.Seq.{append_snoc, set_split, paste, paste-suc, drop-paste, take_at, drop_at, take-length, take-nil, drop-nil, length-take-le, drop-drop, take-take, take-append-le, drop-append-le, take-set-le, take-set-lt, drop-set-lt, drop-set-add, take-add}
 use Rattle.device.specs.Layout.{place_in, total, parts_of, joined}
 
 -- ---- joined again
@@ -151,19 +151,6 @@ pub paste_more : (d : List ℕ) (at : ℕ) (s : List ℕ) (j : ℕ) {e : List �
     → set e (at + j) (get_or s j 0) ≡ paste d at s (j + 1)
 paste_more d at s j q hd hs =
     ap (λ (l : List ℕ). set l (at + j) (get_or s j 0)) q ∙ paste-suc d at s j 0 hd hs ∙ sym (ap (paste d at s) (add-one j))
-
--- a copy over all of as many words
-pub paste_all : (d s : List ℕ) → length d ≡ length s → paste d 0 s (length s) ≡ s
-paste_all d s h =
-    let e : 0 + length s ≡ length d = omega arith in
-    ap₂ ◌++◌ (take-length s) (ap (λ (k : ℕ). drop k d) e ∙ drop-length d) ∙ append-nil s
-
--- the words from a place on, copied over as many zeros
-pub read-words : (n : ℕ) (m : List ℕ) (at : ℕ) → at + n ≤ length m
-    → paste (replicate n 0) 0 (take n (drop at m)) (length (take n (drop at m))) ≡ take n (drop at m)
-read-words n m at h =
-    let l : n ≤ length (drop at m) = simp length-drop (omega (arith, h)) in
-    paste_all (replicate n 0) (take n (drop at m)) (length-replicate n 0 ∙ sym (length-take-le n (drop at m) l))
 
 -- a word stored is a copy of one
 pub set-paste : (m : List ℕ) (at v : ℕ) → at < length m → set m at v ≡ paste m at (v ∷ []) 1

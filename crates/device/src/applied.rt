@@ -17,12 +17,11 @@ fn access_register(state: &mut [u32; STATE_WORDS], a: RegisterAccess) -> Answer
     ensures answer { result ≡ (register_step a.block a.request (state_of state.old)).answer }
     ensures next { state_of state.new ≡ (register_step a.block a.request (state_of state.old)).next }
 {
-    let block = a.block;
-    let q = a.request;
+    let RegisterAccess { block, request } = a;
     match block {
-        Block::Rifsc => access_rifsc(state, q),
-        Block::Iac => access_iac(state, q),
-        Block::Risaf(guard) => access_guard(state, guard, q),
+        Block::Rifsc => access_rifsc(state, request),
+        Block::Iac => access_iac(state, request),
+        Block::Risaf(guard) => access_guard(state, guard, request),
     }
 }
 
@@ -77,9 +76,8 @@ pub fn apply_master(state: &mut [u32], a: MasterAccess) -> Answer
     let Some(state) = state.as_mut_array::<STATE_WORDS>() else {
         return Answer::Rejected(Why::WrongLength);
     };
-    let master = a.master;
-    let kind = load_attributes(state, master).carried(a.write);
-    access_memory(state, master.exists(), a.guard, a.offset, a.width, kind)
+    let kind = load_attributes(state, a.master).carried(a.write);
+    access_memory(state, a.master.exists(), a.guard, a.offset, a.width, kind)
 }
 
 // ---- any event

@@ -7,7 +7,7 @@ ghost use Rattle.device.specs.Layout.{state_of};
 ghost use Rattle.device.specs.State.{with_rifsc};
 
 use crate::layout::{ATTR, CR, PRIVCFGR, RCFGLOCKR, RIMC_CR, SECCFGR, STATE_WORDS};
-use crate::part_words::{store_in, word_in};
+use crate::part_words::{bit_in, store_in, word_in};
 use rifsc::{
     Attributes, Filter, Lock, MASTERS, MasterNumber, PeripheralNumber, Register, Row, Seen,
 };
@@ -43,9 +43,8 @@ fn is_locked(state: &[u32; STATE_WORDS], lock: Lock) -> bool
 pub(crate) fn load_seen(state: &[u32; STATE_WORDS], reg: Register, row: Row) -> Seen
     ensures { result ≡ seen (state_of state.now).rifsc reg row.lock row.index }
 {
-    let lock = row.lock;
     Seen {
-        locked: is_locked(state, lock),
+        locked: is_locked(state, row.lock),
         rlock: word_in(state, RCFGLOCKR, BIT_WORDS, row.index),
         sec: word_in(state, SECCFGR, BIT_WORDS, row.index),
         word: stored(state, reg),
@@ -72,10 +71,9 @@ pub(crate) fn store_register(state: &mut [u32; STATE_WORDS], reg: Register, v: u
 pub(crate) fn load_filter(state: &[u32; STATE_WORDS], p: PeripheralNumber) -> Filter
     ensures { result ≡ filter_of (state_of state.now).rifsc p }
 {
-    let x = (p.0 / 32) as usize;
     Filter {
-        sec: words::bit_of(word_in(state, SECCFGR, BIT_WORDS, x), p.0 % 32),
-        privileged: words::bit_of(word_in(state, PRIVCFGR, BIT_WORDS, x), p.0 % 32),
+        sec: bit_in(state, SECCFGR, p.0),
+        privileged: bit_in(state, PRIVCFGR, p.0),
     }
 }
 
@@ -83,10 +81,8 @@ pub(crate) fn load_filter(state: &[u32; STATE_WORDS], p: PeripheralNumber) -> Fi
 pub(crate) fn load_attributes(state: &[u32; STATE_WORDS], m: MasterNumber) -> Attributes
     ensures { result ≡ attributes_of (state_of state.now).rifsc m }
 {
-    let p = m.guarding();
-    let x = (p.0 / 32) as usize;
     Attributes {
         attr: word_in(state, ATTR, MASTERS, m.0 as usize),
-        sec: (m.0 == 0) | words::bit_of(word_in(state, SECCFGR, BIT_WORDS, x), p.0 % 32),
+        sec: (m.0 == 0) | bit_in(state, SECCFGR, m.guarding().0),
     }
 }

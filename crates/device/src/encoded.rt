@@ -45,10 +45,9 @@ pub fn master_encoded(state: &mut [u32], a: MasterAccess) -> u64
     let Some(words) = state.as_array::<STATE_WORDS>() else {
         return Answer::Rejected(Why::WrongLength).encoded();
     };
-    let master = a.master;
-    if !master.exists() {
+    if !a.master.exists() {
         return Answer::Rejected(Why::NoSuch).encoded();
     }
-    let kind = load_attributes(words, master).carried(a.write);
+    let kind = load_attributes(words, a.master).carried(a.write);
     memory_encoded(state, a.guard, a.offset, a.width, kind)
 }

@@ -9,7 +9,7 @@ ghost use Rattle.device.specs.Layout.{state_of};
 ghost use Rattle.device.specs.State.{flagged, with_iac};
 
 use crate::layout::{COUNT, IER, ISR, LINE, STATE_WORDS};
-use crate::part_words::{store_in, word_in};
+use crate::part_words::{bit_in, store_in, word_in};
 use access::Flag;
 use iac::{Held, Register};
 use words::BIT_WORDS;
@@ -56,32 +56,22 @@ fn keep(state: &mut [u32; STATE_WORDS], named: u32, other: u32, old: u32, new: u
 
 // ---- a word rewritten: old is stored, and named are the bits that are
 
-fn rewrite_ier(state: &mut [u32; STATE_WORDS], x: usize, named: u32, old: u32, new: u32)
-    requires { (named ≡ iisr x) × (old ≡ get_or (state_of state.old).iac.ier x 0) }
-    ensures { state_of state.new ≡ with_iac (state_of state.old) (held (state_of state.old).iac (with_word (state_of state.old).iac (Ier x) new)) }
-{
-    store_in(state, IER, BIT_WORDS, x, new);
-    let isr = word_in(state, ISR, BIT_WORDS, x);
-    keep(state, named, isr, old, new);
-}
-
-fn rewrite_isr(state: &mut [u32; STATE_WORDS], x: usize, named: u32, old: u32, new: u32)
-    requires { (named ≡ iisr x) × (old ≡ get_or (state_of state.old).iac.isr x 0) }
-    ensures { state_of state.new ≡ with_iac (state_of state.old) (held (state_of state.old).iac (with_word (state_of state.old).iac (Icr x) new)) }
-{
-    store_in(state, ISR, BIT_WORDS, x, new);
-    let ier = word_in(state, IER, BIT_WORDS, x);
-    keep(state, named, ier, old, new);
-}
-
 pub(crate) fn rewrite(state: &mut [u32; STATE_WORDS], reg: Register, named: u32, old: u32, new: u32)
     requires { (named ≡ (row_of reg).named) × (old ≡ stored (state_of state.old).iac reg) }
     ensures { state_of state.new ≡ with_iac (state_of state.old) (held (state_of state.old).iac (with_word (state_of state.old).iac reg new)) }
 {
     match reg {
-        Register::Ier(x) => rewrite_ier(state, x, named, old, new),
+        Register::Ier(x) => {
+            store_in(state, IER, BIT_WORDS, x, new);
+            let isr = word_in(state, ISR, BIT_WORDS, x);
+            keep(state, named, isr, old, new);
+        }
         Register::Isr(_) => {}
-        Register::Icr(x) => rewrite_isr(state, x, named, old, new),
+        Register::Icr(x) => {
+            store_in(state, ISR, BIT_WORDS, x, new);
+            let ier = word_in(state, IER, BIT_WORDS, x);
+            keep(state, named, ier, old, new);
+        }
         Register::Iisr(_) => {}
         Register::Unknown => {}
     }
@@ -99,7 +89,7 @@ pub(crate) fn raise(state: &mut [u32; STATE_WORDS], flag: Flag)
         let isr = word_in(state, ISR, BIT_WORDS, x);
         if !words::bit_of(isr, k) {
             store_in(state, ISR, BIT_WORDS, x, words::with_bit(isr, k, true));
-            let enabled = words::bit_of(word_in(state, IER, BIT_WORDS, x), k);
+            let enabled = bit_in(state, IER, flag.0);
             recount(state, 0, enabled as u32);
         }
     }

@@ -3,40 +3,27 @@ ghost use Rattle.std.specs.Prelude.{◌≡◌, ◌+◌, ◌*◌, ◌≤◌, ◌<
 ghost use Rattle.risaf.specs.Contents.{guard_size, guard_words, with_word};
 ghost use Rattle.risaf.specs.Guards.{guard_count};
 ghost use Rattle.risaf.specs.Memory.{faults_of, with_faults};
-ghost use Rattle.risaf.specs.Port.{port_in, read_answer};
 ghost use Rattle.device.specs.Layout.{guards_at, state_of, state_words};
 ghost use Rattle.device.specs.State.{guard_at, with_guard_at};
 
 use crate::layout::{GUARDS, STATE_WORDS};
-use access::{Answer, Request};
-use risaf::{Faults, GUARD_WORDS, IADDR, IAESR, IASR, Port, Row, Shape};
+use risaf::{Faults, GUARD_WORDS, IADDR, IAESR, IASR};
 
 // Where they begin.
-fn guard_start(place: usize) -> usize
+pub(crate) fn guard_start(place: usize) -> usize
     requires { place < guard_count }
     ensures { (result ≡ guards_at + guard_size * place) × (result + guard_size ≤ state_words) }
 {
     GUARDS + GUARD_WORDS * place
 }
 
-// What an access to the register with this row needs.
-pub(crate) fn load_port(state: &[u32; STATE_WORDS], place: usize, row: Row) -> Port
+// The words of the guard there.
+pub(crate) fn load_words(state: &[u32; STATE_WORDS], place: usize) -> &[u32]
     requires { place < guard_count }
-    ensures { result ≡ port_in (guard_words (guard_at (state_of state.now) place)) row }
+    ensures { result.now ≡ guard_words (guard_at (state_of state.now) place) }
 {
     let start = guard_start(place);
-    let end = start + GUARD_WORDS;
-    Port::at(&state[start..end], row)
-}
-
-// The answer to a read of a register.
-pub(crate) fn read_register(state: &[u32; STATE_WORDS], shape: Shape, q: Request) -> Answer
-    requires { shape.place < guard_count }
-    ensures { result ≡ read_answer shape (guard_words (guard_at (state_of state.now) shape.place)) q }
-{
-    let start = guard_start(shape.place);
-    let end = start + GUARD_WORDS;
-    risaf::read(&state[start..end], shape, q)
+    &state[start..start + GUARD_WORDS]
 }
 
 // Stores the guard's word i.
@@ -52,11 +39,11 @@ pub(crate) fn load_faults(state: &[u32; STATE_WORDS], place: usize) -> Faults
     requires { place < guard_count }
     ensures { result ≡ faults_of (guard_at (state_of state.now) place) }
 {
-    let start = guard_start(place);
+    let words = load_words(state, place);
     Faults {
-        iasr: state[start + IASR],
-        iaesr: state[start + IAESR],
-        iaddr: state[start + IADDR],
+        iasr: words[IASR],
+        iaesr: words[IAESR],
+        iaddr: words[IADDR],
     }
 }
 

@@ -3,10 +3,11 @@ ghost use Rattle.device.specs.Layout.{state_of};
 ghost use Rattle.device.specs.Step.{memory_step};
 
 use crate::flags::raise;
-use crate::guards::{load_faults, store_faults};
-use crate::layout::{STATE_WORDS, region_words};
+use crate::guards::{load_faults, load_words, store_faults};
+use crate::layout::STATE_WORDS;
 use access::{Answer, Kind};
-use risaf::{GuardNumber, memory_checked};
+use regions::NO_REASON;
+use risaf::{GuardNumber, HEAD_WORDS, memory_checked};
 
 // A memory access: granted, it writes nothing. there says whether the master is one there is.
 pub(crate) fn access_memory(
@@ -26,13 +27,14 @@ pub(crate) fn access_memory(
         return checked;
     };
     let bus = shape.bus;
-    let verdict = regions::decide(bus, region_words(state, shape.place), shape.regions, o, k);
-    let Some(reason) = verdict.reason else {
-        return Answer::Done(verdict.rule.number());
-    };
+    let words = load_words(state, shape.place);
+    let verdict = regions::decide(bus, &words[HEAD_WORDS..], shape.regions, o, k);
+    if verdict.reason == NO_REASON {
+        return Answer::Done(verdict.rule);
+    }
     let heard = bus.hears(k);
     let faults = load_faults(state, shape.place).recorded(o, heard);
     store_faults(state, shape.place, faults);
     raise(state, shape.flag);
-    Answer::Refused(reason.number())
+    Answer::Refused(verdict.reason)
 }

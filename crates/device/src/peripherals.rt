@@ -20,11 +20,10 @@ pub(crate) fn access_peripheral(state: &mut [u32; STATE_WORDS], a: PeripheralAcc
     ensures next { state_of state.new ≡ (peripheral_step a (state_of state.old)).next }
 {
     let p = a.peripheral;
-    let operation = a.operation;
     if !p.exists() {
         return Answer::Rejected(Why::NoSuch);
     }
-    if is_fetch(operation) {
+    if is_fetch(a.operation) {
         return Answer::Rejected(Why::Fetch);
     }
     if load_filter(state, p).grants(a.secure, a.privileged) {

@@ -5,11 +5,11 @@ ghost use Rattle.device.specs.declared.event.Block.TheVariants.{Iac, Rifsc, Risa
 
 use crate::controller::{load_seen, store_register, stored};
 use crate::flags::{load_word, raise, rewrite};
-use crate::guards::{load_faults, load_port, read_register, store_word};
+use crate::guards::{load_words, store_word};
 use crate::layout::STATE_WORDS;
 use access::{Answer, Flag, Request, Why};
 use iac::Seen;
-use risaf::{CAEF, GuardNumber, IASR};
+use risaf::{CAEF, GuardNumber, IASR, Port};
 
 // The flags of a refused access to the controller's registers, and to those of the IAC.
 const RIFSC_FLAG: Flag = Flag(158);
@@ -39,9 +39,7 @@ pub(crate) fn access_rifsc(state: &mut [u32; STATE_WORDS], q: Request) -> Answer
     }
     let reg = rifsc::register_at(q.offset);
     let row = reg.row();
-    let accessed = load_seen(state, reg, row).access(reg, row, q);
-    let answer = accessed.answer;
-    let next = accessed.next;
+    let rifsc::port::Accessed { answer, next } = load_seen(state, reg, row).access(reg, row, q);
     match answer {
         Answer::Done(_) => store_register(state, reg, next.word),
         Answer::Refused(_) => raise(state, RIFSC_FLAG),
@@ -80,9 +78,7 @@ pub(crate) fn access_iac(state: &mut [u32; STATE_WORDS], q: Request) -> Answer
     let seen = Seen {
         word: load_word(state, reg),
     };
-    let accessed = seen.access(reg, row, q);
-    let answer = accessed.answer;
-    let next = accessed.next;
+    let iac::port::Accessed { answer, next } = seen.access(reg, row, q);
     match answer {
         Answer::Done(_) => rewrite(state, reg, row.named, seen.word, next.word),
         Answer::Refused(_) => raise(state, IAC_FLAG),
@@ -98,15 +94,11 @@ fn read_guard(state: &mut [u32; STATE_WORDS], guard: GuardNumber, q: Request) ->
     ensures next { state_of state.new ≡ (register_step (Risaf guard) q (state_of state.old)).next }
 {
     let shape = guard.shape();
-    let answer = read_register(state, shape, q);
+    let held = load_words(state, shape.place);
+    let answer = risaf::read(held, shape, q);
     if let Answer::Refused(_) = answer {
-        let faults = load_faults(state, shape.place);
-        store_word(
-            state,
-            shape.place,
-            IASR,
-            words::with_bit(faults.iasr, CAEF, true),
-        );
+        let iasr = words::with_bit(held[IASR], CAEF, true);
+        store_word(state, shape.place, IASR, iasr);
         raise(state, shape.flag);
     }
     answer
@@ -132,9 +124,8 @@ pub(crate) fn access_guard(state: &mut [u32; STATE_WORDS], guard: GuardNumber, q
     if !row.known {
         return Answer::Rejected(Why::NoRegister);
     }
-    let accessed = load_port(state, shape.place, row).access(shape, row, q);
-    let answer = accessed.answer;
-    let next = accessed.next;
+    let port = Port::at(load_words(state, shape.place), row);
+    let risaf::port::Accessed { answer, next } = port.access(shape, row, q);
     match answer {
         Answer::Done(_) => store_word(state, shape.place, row.place, next.word),
         Answer::Refused(_) => {

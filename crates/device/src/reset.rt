@@ -5,7 +5,8 @@ ghost use Rattle.device.specs.Layout.{state_of};
 ghost use Rattle.device.specs.State.{reset_state, with_guard, with_guard_at};
 
 use crate::blocks::{store_iac, store_rifsc};
-use crate::layout::{GUARDS, STATE_WORDS};
+use crate::guards::guard_start;
+use crate::layout::STATE_WORDS;
 use iac::Iac;
 use rifsc::Rifsc;
 use risaf::{GUARD_NUMBERS, GUARD_WORDS, GuardNumber, HEAD_WORDS};
@@ -20,24 +21,14 @@ fn guard_words(granule: u32) -> [u32; GUARD_WORDS]
     words
 }
 
-// Stores the words of the guard at a place among the guards.
-fn store_guard(state: &mut [u32; STATE_WORDS], place: usize, words: &[u32; GUARD_WORDS])
-    requires { place < guard_count }
-    ensures { state_of state.new ≡ with_guard_at (state_of state.old) place (guard_from words.now) }
-{
-    let start = GUARDS + GUARD_WORDS * place;
-    let end = start + GUARD_WORDS;
-    state[start..end].copy_from_slice(words);
-}
-
 // Every word of a guard its reset value, if there is one with this number.
 fn reset_guard(state: &mut [u32; STATE_WORDS], guard: GuardNumber)
     ensures { state_of state.new ≡ cond (is_guard guard.0) (with_guard (state_of state.old) guard.0 (guard_reset (shape_of guard.0).granule)) (state_of state.old) }
 {
     let shape = guard.shape();
     if shape.there {
-        let words = guard_words(shape.granule);
-        store_guard(state, shape.place, &words);
+        let start = guard_start(shape.place);
+        state[start..start + GUARD_WORDS].copy_from_slice(&guard_words(shape.granule));
     }
 }
 

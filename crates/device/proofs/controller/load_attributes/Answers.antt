@@ -8,11 +8,4 @@ pub returns : goal.returns
 unfolding attributes_of state_of
 returns c =
     let m = c.args.state.now in
-    simp (
-      c.bit_of.ensures,
-      c.word_in-2.ensures,
-      c.word_in.ensures,
-      c.guarding-p.ensures,
-      head-part m attr_part (lit< tt),
-      head-part m seccfgr_part (lit< tt),
-    )
+    simp (c.bit_in.ensures, c.word_in.ensures, c.guarding.ensures, head-part m attr_part (lit< tt), head-part m seccfgr_part (lit< tt))

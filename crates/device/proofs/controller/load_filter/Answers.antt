@@ -8,11 +8,4 @@ pub returns : goal.returns
 unfolding filter_of state_of
 returns c =
     let m = c.args.state.now in
-    simp (
-      c.bit_of-2.ensures,
-      c.word_in-2.ensures,
-      c.bit_of.ensures,
-      c.word_in.ensures,
-      head-part m seccfgr_part (lit< tt),
-      head-part m privcfgr_part (lit< tt),
-    )
+    simp (c.bit_in-2.ensures, c.bit_in.ensures, head-part m seccfgr_part (lit< tt), head-part m privcfgr_part (lit< tt))

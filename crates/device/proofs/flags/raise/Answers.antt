@@ -12,7 +12,7 @@ use Rattle.device.proofs.StateLayout.{head-part}
 use Rattle.device.proofs.flags.raise.Goals as goal
 
 pub recount-requires : goal.recount-requires
-recount-requires c = (omega arith, omega (arith, one-most c.bit_of-enabled.result))
+recount-requires c = (omega arith, omega (arith, one-most c.bit_in-enabled.result))
 
 pub returns-then-not-bit_of : goal.returns-then-not-bit_of
 unfolding state_of
@@ -24,8 +24,8 @@ returns-then-not-bit_of c =
     let x = a.flag.0 / 32 in
     let v = c.with_bit.result in
     let ei : c.word_in-isr.result ≡ get_or s.iac.isr x 0 = simp (c.word_in-isr.ensures, head-part m isr_part (lit< tt)) in
-    let ee : c.bit_of-enabled.result ≡ bit (get_or (state_of c.store_in.new.state).iac.ier x 0) (a.flag.0 % 32) =
-    simp (c.bit_of-enabled.ensures, c.word_in.ensures, head-part c.store_in.new.state ier_part (lit< tt)) in
+    let ee : c.bit_in-enabled.result ≡ bit (get_or (state_of c.store_in.new.state).iac.ier x 0) (a.flag.0 % 32) =
+    simp (c.bit_in-enabled.ensures, head-part c.store_in.new.state ier_part (lit< tt)) in
     flag-raised s a.flag ei (sym c.is_flag.ensures ∙ c.if-is_flag.true) (state-sized m h)
     (sym c.bit_of.ensures ∙ c.if-not-bit_of.true) c.with_bit.ensures
     (isr-stored x v (heads-set isr_part x v h (lit< tt) c.store_in.ensures)) ee c.recount.ensures

@@ -1,36 +1,51 @@
-use mathlib.Core.Path.{sym, ap}
+use mathlib.Core.Path.{◌≡◌, sym, ap}
+use lib.Dec.{lit<}
+use lib.ListN.{get_or}
 use Rattle.iac.specs.Contents.{stored, with_word}
-use Rattle.iac.specs.Registers.{row_of}
+use Rattle.iac.specs.Registers.{iisr, row_of}
 use Rattle.iac.proofs.HeldAt.{at_none}
-use Rattle.device.specs.Layout.{state_of}
+use Rattle.device.specs.Layout.{ier_part, isr_part, state_of}
 use Rattle.device.specs.State.{with_iac}
+use Rattle.device.proofs.HeldSteps.{state-sized, ier-kept, isr-kept}
+use Rattle.device.proofs.PartWords.{heads-set, ier-stored, isr-stored}
+use Rattle.device.proofs.StateLayout.{head-part}
 use Rattle.device.proofs.flags.rewrite.Goals as goal
 
-pub rewrite_ier-requires : goal.rewrite_ier-requires
-unfolding row_of stored
-rewrite_ier-requires c =
-    let p = c.requires in
-    let e = c.in-Ier.is in
-    (rw e at p.0, rw e at p.1)
-
-pub rewrite_isr-requires : goal.rewrite_isr-requires
-unfolding row_of stored
-rewrite_isr-requires c =
-    let p = c.requires in
-    let e = c.in-Icr.is in
-    (rw e at p.0, rw e at p.1)
-
 pub returns-in-Ier : goal.returns-in-Ier
-returns-in-Ier c = rw c.in-Ier.is c.rewrite_ier.ensures
+unfolding row_of stored state_of
+returns-in-Ier c =
+    let a = c.args in
+    let m = a.state.now in
+    let x = c.in-Ier.x in
+    let e = c.in-Ier.is in
+    let p = c.requires in
+    let named : a.named ≡ iisr x = rw e at p.0 in
+    let old : a.old ≡ get_or (state_of m).iac.ier x 0 = rw e at p.1 in
+    rw e
+    (ier-kept (state_of m) x a.new (state-sized m c.told-state) named c.keep.ensures old
+    (ier-stored x a.new (heads-set ier_part x a.new c.told-state (lit< tt) c.store_in.ensures))
+    (simp (c.word_in-isr.ensures, head-part c.store_in.new.state isr_part (lit< tt))))
+
+pub returns-in-Icr : goal.returns-in-Icr
+unfolding row_of stored state_of
+returns-in-Icr c =
+    let a = c.args in
+    let m = a.state.now in
+    let x = c.in-Icr.x in
+    let e = c.in-Icr.is in
+    let p = c.requires in
+    let named : a.named ≡ iisr x = rw e at p.0 in
+    let old : a.old ≡ get_or (state_of m).iac.isr x 0 = rw e at p.1 in
+    rw e
+    (isr-kept (state_of m) x a.new (state-sized m c.told-state) named c.keep-in-Icr.ensures old
+    (isr-stored x a.new (heads-set isr_part x a.new c.told-state (lit< tt) c.store_in-in-Icr.ensures))
+    (simp (c.word_in-ier.ensures, head-part c.store_in-in-Icr.new.state ier_part (lit< tt))))
 
 pub returns-in-Isr : goal.returns-in-Isr
 unfolding with_word
 returns-in-Isr c =
     let s = state_of c.args.state.now in
     rw c.in-Isr.is (ap (with_iac s) (sym (at_none s.iac)))
-
-pub returns-in-Icr : goal.returns-in-Icr
-returns-in-Icr c = rw c.in-Icr.is c.rewrite_isr.ensures
 
 pub returns-in-Iisr : goal.returns-in-Iisr
 unfolding with_word

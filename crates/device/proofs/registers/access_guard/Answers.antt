@@ -38,8 +38,8 @@ returns-then-not-row c =
     let all = register-unknown t a.guard a.q c.shape-shape.ensures c.row_at-row.ensures (not-false c.shape-shape.result.there c.if-not-shape.false) c.if-q-ne0.false (not-true c.row_at-row.result.known c.if-not-row.true) in
     record { answer = all.0; next = all.1 }
 
-pub load_port-requires : goal.load_port-requires
-load_port-requires c =
+pub load_words-requires : goal.load_words-requires
+load_words-requires c =
     rw c.shape-shape.ensures (place-lt _)
 
 pub store_word-requires : goal.store_word-requires
@@ -56,8 +56,8 @@ returns-in-Done c =
     let t = state_of a.state.now in
     let es = c.shape-shape.ensures in
     let er = c.row_at-row.ensures in
-    let ep = c.load_port.ensures in
-    let ea = c.access-accessed.ensures in
+    let ep = c.at-port.ensures ∙ rw c.load_words.ensures in
+    let ea = c.access-answer.ensures in
     record { answer = register-answer t a.guard a.q es er ep ea; next = register-written t a.guard a.q es er ep ea c.in-Done.is (not-false a.q.write c.if-not-q.false) c.store_word.ensures }
 
 pub returns-in-Refused : goal.returns-in-Refused
@@ -66,8 +66,8 @@ returns-in-Refused c =
     let t = state_of a.state.now in
     let es = c.shape-shape.ensures in
     let er = c.row_at-row.ensures in
-    let ep = c.load_port.ensures in
-    let ea = c.access-accessed.ensures in
+    let ep = c.at-port.ensures ∙ rw c.load_words.ensures in
+    let ea = c.access-answer.ensures in
     record { answer = register-answer t a.guard a.q es er ep ea; next = register-refused t a.guard a.q es er ep ea c.in-Refused.is (c.raise.ensures ∙ ap (flagged _) c.store_word-in-Refused.ensures) }
 
 pub returns-in-Rejected : goal.returns-in-Rejected
@@ -76,6 +76,6 @@ returns-in-Rejected c =
     let t = state_of a.state.now in
     let es = c.shape-shape.ensures in
     let er = c.row_at-row.ensures in
-    let ep = c.load_port.ensures in
-    let ea = c.access-accessed.ensures in
+    let ep = c.at-port.ensures ∙ rw c.load_words.ensures in
+    let ea = c.access-answer.ensures in
     record { answer = register-answer t a.guard a.q es er ep ea; next = register-rejected t a.guard a.q es er ep ea c.in-Rejected.is }
