@@ -5,7 +5,7 @@ ghost use Rattle.device.specs.Step.{memory_step};
 use crate::flags::raise;
 use crate::guards::{load_faults, store_faults};
 use crate::layout::region_words;
-use access::{Answer, Kind};
+use access::{Answer, Kind, Why};
 use regions::NO_REASON;
 use risaf::{GuardNumber, memory_checked};
 
@@ -22,10 +22,12 @@ pub(crate) fn access_memory(
     ensures answer { result ≡ (memory_step there guard.0 o width k (state_of state.old)).answer }
     ensures next { state_of state.new ≡ (memory_step there guard.0 o width k (state_of state.old)).next }
 {
-    let shape = guard.shape();
-    let checked = memory_checked(there & shape.there, shape, o, width, k);
-    let Answer::Done(_) = checked else {
-        return checked;
+    if !there {
+        return Answer::Rejected(Why::NoSuch);
+    }
+    let shape = match memory_checked(guard.shape(), o, width, k) {
+        Ok(shape) => shape,
+        Err(why) => return Answer::Rejected(why),
     };
     let bus = shape.bus;
     let verdict = regions::decide(bus, region_words(state, shape.place), shape.regions, o, k);

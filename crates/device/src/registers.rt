@@ -98,7 +98,9 @@ fn read_guard(state: &mut [u32], guard: GuardNumber, q: Request) -> Answer
     ensures answer { result ≡ (register_step (Risaf guard) q (state_of state.old)).answer }
     ensures next { state_of state.new ≡ (register_step (Risaf guard) q (state_of state.old)).next }
 {
-    let shape = guard.shape();
+    let Some(shape) = guard.shape() else {
+        return Answer::Rejected(Why::NoSuch);
+    };
     let answer = read_register(state, shape, q);
     if let Answer::Refused(_) = answer {
         let faults = load_faults(state, shape.place);
@@ -123,17 +125,15 @@ pub(crate) fn access_guard(state: &mut [u32], guard: GuardNumber, q: Request) ->
     if !q.write {
         return read_guard(state, guard, q);
     }
-    let shape = guard.shape();
-    if !shape.there {
+    let Some(shape) = guard.shape() else {
         return Answer::Rejected(Why::NoSuch);
-    }
+    };
     if q.offset % 4 != 0 {
         return Answer::Rejected(Why::Misaligned);
     }
-    let row = risaf::row_at(shape.regions, q.offset);
-    if !row.known {
+    let Some(row) = risaf::row_at(shape.regions, q.offset) else {
         return Answer::Rejected(Why::NoRegister);
-    }
+    };
     let accessed = load_port(state, shape.place, row).access(shape, row, q);
     let answer = accessed.answer;
     let next = accessed.next;

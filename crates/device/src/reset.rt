@@ -34,8 +34,7 @@ fn reset_guard(state: &mut [u32], guard: GuardNumber)
     requires { length state.old ≡ state_words }
     ensures { state_of state.new ≡ cond (is_guard guard.0) (with_guard (state_of state.old) guard.0 (guard_reset (shape_of guard.0).granule)) (state_of state.old) }
 {
-    let shape = guard.shape();
-    if shape.there {
+    if let Some(shape) = guard.shape() {
         let words = guard_words(shape.granule);
         store_guard(state, shape.place, &words);
     }

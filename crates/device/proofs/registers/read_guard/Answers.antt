@@ -1,37 +1,42 @@
 -- `device::registers::read_guard` meets its contract: refused or not.
 use mathlib.Core.Bool.{true}
-use mathlib.Core.Path.{ap, ◌∙◌}
+use mathlib.Core.Path.{ap, sym, ◌∙◌}
 use lib.Dec.{lit<}
 use Rattle.words.specs.Bit.{with_bit}
 use Rattle.risaf.specs.declared.memory.Faults.{Faults}
-use Rattle.risaf.proofs.Shapes.{place-lt}
+use Rattle.risaf.proofs.Shapes.{place-found}
 use Rattle.device.specs.Layout.{state_of}
 use Rattle.device.specs.State.{flagged}
-use Rattle.device.proofs.GuardSteps.{register-read-kept, register-read-refused}
+use Rattle.device.proofs.GuardSteps.{register-no-guard, register-read-kept, register-read-refused}
 use borrow.Enum.Refused.{opened}
 use Rattle.device.proofs.registers.read_guard.Goals as goal
 
 pub read_register-answer-requires : goal.read_register-answer-requires
 read_register-answer-requires c =
-    (c.requires.0, rw c.shape-shape.ensures (place-lt _))
+    (c.requires.0, place-found c.args.guard.0 (sym c.shape.ensures ∙ c.in-Some.is))
 
 pub load_faults-faults-requires : goal.load_faults-faults-requires
 load_faults-faults-requires c =
-    (c.requires.0, rw c.shape-shape.ensures (place-lt _))
+    (c.requires.0, place-found c.args.guard.0 (sym c.shape.ensures ∙ c.in-Some.is))
 
 pub store_word-requires : goal.store_word-requires
 store_word-requires c =
-    (c.requires.0, rw c.shape-shape.ensures (place-lt _), lit< tt)
+    (c.requires.0, place-found c.args.guard.0 (sym c.shape.ensures ∙ c.in-Some.is), lit< tt)
 
 pub returns-in-Refused : goal.returns-in-Refused
 returns-in-Refused c =
     let t = state_of c.args.state.now in
     let e = c.with_bit.ensures ∙ ap (λ (f : Faults). with_bit 32 f.iasr 0 true) c.load_faults-faults.ensures in
-    let all = register-read-refused t c.args.guard c.args.q c.requires.1 c.shape-shape.ensures c.read_register-answer.ensures c.in-Refused.is e (c.raise.ensures ∙ ap (flagged _) c.store_word.ensures) in
+    let all = register-read-refused t c.args.guard c.args.q c.requires.1 (sym c.shape.ensures ∙ c.in-Some.is) c.read_register-answer.ensures c.in-Refused.is e (c.raise.ensures ∙ ap (flagged _) c.store_word.ensures) in
     record { answer = all.0; next = all.1 }
 
 pub returns-in_default : goal.returns-in_default
 returns-in_default c =
+    let all = register-no-guard (state_of c.args.state.now) c.args.guard c.args.q (sym c.shape.ensures ∙ c.in_default.is) in
+    record { answer = all.0; next = all.1 }
+
+pub returns-in_default-answer : goal.returns-in_default-answer
+returns-in_default-answer c =
     let t = state_of c.args.state.now in
-    let all = register-read-kept t c.args.guard c.args.q c.requires.1 c.shape-shape.ensures c.read_register-answer.ensures (opened c.in_default.in_default-own.keys2) in
+    let all = register-read-kept t c.args.guard c.args.q c.requires.1 (sym c.shape.ensures ∙ c.in-Some.is) c.read_register-answer.ensures (opened c.in_default-answer.in_default-answer-own.keys2) in
     record { answer = all.0; next = all.1 }

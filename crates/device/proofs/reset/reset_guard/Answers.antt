@@ -1,23 +1,17 @@
-use mathlib.Core.Path.{ap}
+use mathlib.Core.Path.{ap, sym, ◌∙◌}
 use lib.ListN.{length}
 use Rattle.risaf.specs.Contents.{reset}
-use Rattle.risaf.proofs.Shapes.{place-lt}
+use Rattle.risaf.proofs.Shapes.{place-found}
 use Rattle.device.specs.Layout.{state_of}
-use Rattle.device.proofs.ResetGuards.{guard-reset, guard_none}
+use Rattle.device.proofs.ResetGuards.{guard-reset}
 use Rattle.device.proofs.reset.reset_guard.Goals as goal
 
 pub store_guard-requires : goal.store_guard-requires
 unfolding reset
 store_guard-requires c =
-    (c.requires, rw c.shape-shape.ensures (place-lt _), ap length c.guard_words-words.ensures)
+    (c.requires, place-found c.args.guard.0 (sym c.shape.ensures ∙ c.in-Some.is), ap length c.guard_words-words.ensures)
 
-pub returns-then-shape : goal.returns-then-shape
-returns-then-shape c =
+pub returns-in-Some : goal.returns-in-Some
+returns-in-Some c =
     let a = c.args in
-    guard-reset (state_of a.state.now) a.guard.0 c.shape-shape.ensures c.if-shape.true
-    c.guard_words-words.ensures c.store_guard.ensures
-
-pub returns-else-shape : goal.returns-else-shape
-returns-else-shape c =
-    let a = c.args in
-    guard_none (state_of a.state.now) a.guard.0 c.shape-shape.ensures c.if-shape.false
+    guard-reset (state_of a.state.now) a.guard.0 (sym c.shape.ensures ∙ c.in-Some.is) c.guard_words-words.ensures c.store_guard.ensures
