@@ -1,10 +1,15 @@
 -- What an event leaves where it is done and where it is refused, and that it leaves one of the two or what was there.
-use mathlib.Core.Bool.{Bool, true, cond}
+use Rattle.std.specs.Prelude.{Option, Some, None}
+use mathlib.Core.Bool.{Bool, true, false, cond}
 use mathlib.Core.Path.{◌≡◌, refl, ap, ◌∙◌}
-use Prim.Native.Nat.{ℕ}
+use Prim.Native.Nat.{ℕ, ◌%◌}
+use lib.Dec.{eqb}
 use Rattle.words.specs.Bit.{with_bit}
 use Rattle.access.specs.Bus.{heard}
 use Rattle.access.specs.Answer.{left}
+use Rattle.access.specs.Checks.{unless, answered_with, reached_with}
+use Rattle.access.specs.declared.answer.Why.TheVariants.{Misaligned, NoRegister, NoSuch}
+use Rattle.access.specs.declared.flag.Flag.{Flag}
 use Rattle.access.specs.declared.answer.Answer.{Answer}
 use Rattle.access.specs.declared.answer.Answer.TheVariants.{Done, Refused, Rejected}
 use Rattle.access.specs.declared.kind.Kind.{Kind}
@@ -18,17 +23,16 @@ use Rattle.iac.specs.Port as iac
 use Rattle.iac.specs.Registers as iac-registers
 use Rattle.iac.specs.declared.contents.Iac.{Iac as IacWords}
 use Rattle.risaf.specs.Contents.{iasr_at, guard_words, with_word}
-use Rattle.risaf.specs.Guards.{shape_of}
+use Rattle.risaf.specs.Guards.{is_guard, shape_of}
 use Rattle.risaf.specs.Memory.{faulted, memory_stepped}
 use Rattle.risaf.specs.Port as risaf
 use Rattle.risaf.specs.Port.{port_in, word_written, with_port_word, refused_port}
-use Rattle.risaf.specs.Registers as risaf-registers
-use Rattle.risaf.specs.Rows.{row_of}
+use Rattle.risaf.specs.Rows.{row_at}
 use Rattle.risaf.specs.declared.contents.Guard.{Guard}
 use Rattle.risaf.specs.declared.port.Port.{Port}
 use Rattle.risaf.specs.declared.rows.Row.{Row}
 use Rattle.device.specs.State.{State, guard_of, with_rifsc, with_iac, with_guard, flagged, reset_state}
-use Rattle.device.specs.Step.{rifsc_flag, iac_flag, register_step, peripheral_step, memory_step, step}
+use Rattle.device.specs.Step.{settled, rifsc_flag, iac_flag, register_step, peripheral_step, memory_step, step}
 use Rattle.device.specs.declared.event.Block.{Block}
 use Rattle.device.specs.declared.event.Block.TheVariants.{Rifsc, Iac, Risaf}
 use Rattle.device.specs.declared.event.Event.{Event}
@@ -65,10 +69,6 @@ iac_written q i =
     let reg = iac-registers.register_at q.offset in
     iac.written i reg q
 
--- the row of the register that a request is to, at guard n
-abbrev row_at : ℕ → Request → Row
-row_at n q = row_of (risaf-registers.register_at (shape_of n).regions q.offset)
-
 abbrev port_written : ℕ → Row → Port → Request → Port
 port_written granule row p q = cond q.write (with_port_word p (word_written granule row p q.value q.secure)) p
 
@@ -79,10 +79,15 @@ guard_with row q g p = cond q.write (with_word g row.place p.word) g
 abbrev pub guard_written : ℕ → Row → Request → Guard → Guard
 guard_written granule row q g = guard_with row q g (port_written granule row (port_in (guard_words g) row) q)
 
+-- where it is to a register
+abbrev pub written_at : ℕ → Option Row → Request → Guard → Guard
+written_at granule None q g = g
+written_at granule (Some row) q g = guard_written granule row q g
+
 unfoldable pub register_effect : Block → Request → State → State
 register_effect Rifsc q s = with_rifsc s (rifsc_written q s.rifsc)
 register_effect Iac q s = with_iac s (iac_written q s.iac)
-register_effect (Risaf n) q s = with_guard s n.0 (guard_written (shape_of n.0).granule (row_at n.0 q) q (guard_of s n.0))
+register_effect (Risaf n) q s = with_guard s n.0 (written_at (shape_of n.0).granule (row_at (shape_of n.0).regions q.offset) q (guard_of s n.0))
 
 unfoldable pub effect : Event → State → State
 effect Reset s = reset_state
@@ -116,25 +121,45 @@ refused (Master a) s = memory_refused a.guard.0 a.offset (carried (attributes_of
 
 register-leaves : (b : Block) (q : Request) (s : State)
     → (register_step b q s).next ≡ left (register_step b q s).answer s (register_effect b q s) (register_refused b s)
-unfolding register_step register_effect register_refused rifsc.stepped iac.stepped risaf.stepped risaf.accessed port_in
+unfolding register_step register_effect register_refused rifsc.stepped iac.stepped risaf.stepped risaf.stepped_at risaf.accessed risaf.checks_none answered_with reached_with port_in
 register-leaves Rifsc q s =
     left-part (register_step Rifsc q s).answer s s.rifsc (rifsc_written q s.rifsc) s.rifsc (with_rifsc s)
     (λ r. flagged rifsc_flag (with_rifsc s r))
 register-leaves Iac q s =
     left-part (register_step Iac q s).answer s s.iac (iac_written q s.iac) s.iac (with_iac s)
     (λ i. flagged iac_flag (with_iac s i))
-register-leaves (Risaf n) q s =
-    let a = (register_step (Risaf n) q s).answer in
-    let g = guard_of s n.0 in
-    let row = row_at n.0 q in
-    let p = port_in (guard_words g) row in
-    let flag = (shape_of n.0).flag in
-    let written = port_written (shape_of n.0).granule row p q in
-    let t = left a p written (refused_port p) in
-    left-part a s g (guard_with row q g t) (with_word g iasr_at t.iasr) (with_guard s n.0)
-    (λ h. flagged flag (with_guard s n.0 h))
-    ∙ left-part a s p written (refused_port p) (λ o. with_guard s n.0 (guard_with row q g o))
-    (λ o. flagged flag (with_guard s n.0 (with_word g iasr_at o.iasr)))
+register-leaves (Risaf n) q s = go (row_at (shape_of n.0).regions q.offset)
+  where
+    g : Guard
+    g = guard_of s n.0
+
+    flag : Flag
+    flag = (shape_of n.0).flag
+
+    refusing : State
+    refusing = flagged flag (with_guard s n.0 (guard_refused g))
+
+    none : (t a : Bool)
+        → let b = unless t (Rejected NoSuch) (unless a (Rejected Misaligned) (Rejected NoRegister)) in
+        left b s (with_guard s n.0 g) (flagged flag (with_guard s n.0 g)) ≡ left b s (with_guard s n.0 g) refusing
+    none true true = refl
+    none true false = refl
+    none false a = refl
+
+    go : (r : Option Row)
+        → let o = risaf.stepped_at (is_guard n.0) (shape_of n.0) r g q in
+        (settled o.answer flag s (with_guard s n.0 o.next)).next
+        ≡ left o.answer s (with_guard s n.0 (written_at (shape_of n.0).granule r q g)) refusing
+    go None = none (is_guard n.0) (eqb (q.offset % 4) 0)
+    go (Some row) =
+        let p = port_in (guard_words g) row in
+        let a = risaf.answer_of (is_guard n.0) (shape_of n.0).bus row p q in
+        let written = port_written (shape_of n.0).granule row p q in
+        let t = left a p written (refused_port p) in
+        left-part a s g (guard_with row q g t) (with_word g iasr_at t.iasr) (with_guard s n.0)
+        (λ h. flagged flag (with_guard s n.0 h))
+        ∙ left-part a s p written (refused_port p) (λ o. with_guard s n.0 (guard_with row q g o))
+        (λ o. flagged flag (with_guard s n.0 (with_word g iasr_at o.iasr)))
 
 pub with_guard-same : (s : State) (n : ℕ) → with_guard s n (guard_of s n) ≡ s
 unfolding with_guard guard_of

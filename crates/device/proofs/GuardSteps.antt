@@ -1,5 +1,6 @@
 -- A register access and a memory access to a guard, by what the code's calls give.
-use mathlib.Core.Bool.{Bool, true, false, ◌&&◌, cond}
+use Rattle.std.specs.Prelude.{Option, Some, None, Result, Ok, Err}
+use mathlib.Core.Bool.{Bool, true, false, cond}
 use mathlib.Core.List.{List}
 use mathlib.Core.Path.{◌≡◌, refl, sym, ap, ◌∙◌}
 use Prim.Native.Nat.{ℕ, ◌%◌}
@@ -24,20 +25,19 @@ use Rattle.regions.specs.Verdict.{rule_number, reason_number}
 use Rattle.regions.specs.declared.verdict.Reason.{Reason}
 use Rattle.regions.specs.declared.verdict.Verdict.{Verdict}
 use Rattle.risaf.specs.Contents.{iasr_at, regions_words, guard_words, with_word}
-use Rattle.risaf.specs.Guards.{shape_of}
-use Rattle.risaf.specs.Memory.{memory_answer, memory_checked, faulted, memory_stepped}
-use Rattle.risaf.specs.Port.{port_in, answer_of, checks_of, read_answer, accessed, stepped}
-use Rattle.risaf.specs.Registers.{register_at}
-use Rattle.risaf.specs.Rows.{row_of}
+use Rattle.risaf.specs.Guards.{is_guard, shape_at, shape_of}
+use Rattle.risaf.specs.Memory.{memory_answer, memory_checked, memory_checks, faulted, memory_stepped}
+use Rattle.risaf.specs.Port.{port_in, answer_of, checks_of, checks_none, read_answer, accessed, stepped, stepped_at}
+use Rattle.risaf.specs.Rows.{row_at}
 use Rattle.risaf.specs.declared.contents.Guard.{Guard}
 use Rattle.risaf.specs.declared.guards.GuardNumber.{GuardNumber}
 use Rattle.risaf.specs.declared.guards.Shape.{Shape}
-use Rattle.risaf.specs.declared.port.Accessed.{Accessed}
+use Rattle.access.specs.declared.accessed.Accessed.{Accessed}
 use Rattle.risaf.specs.declared.port.Port.{Port}
 use Rattle.risaf.specs.declared.rows.Row.{Row}
-use Rattle.risaf.proofs.MemoryAnswer.{ruled, onward, answer-onward, checked-unrefused, answer-in}
-use Rattle.risaf.proofs.PortLaws.{read_is}
-use Rattle.risaf.proofs.Shapes.{regions-most}
+use Rattle.risaf.proofs.MemoryAnswer.{ruled, onward, answer-onward, checked-own, answer-in}
+use Rattle.risaf.proofs.PortLaws.{read_is, read_leaves}
+use Rattle.risaf.proofs.Shapes.{found, found-as, regions-most}
 use Rattle.device.specs.State.{State, guard_at, guard_of, with_guards, with_guard_at, with_guard, flagged}
 use Rattle.device.specs.Step.{Outcome, settled, register_step, memory_step}
 use Rattle.device.specs.declared.event.Block.TheVariants.{Risaf}
@@ -48,9 +48,17 @@ guard-same s p = ap (with_guards s) (set-get_or s.guards p _)
 
 -- ---- a register access
 
-module _ (s : State) (n : GuardNumber) (q : Request) {shape : Shape} {row : Row} {p : Port} {r : Accessed} (es : shape ≡ shape_of n.0)
-    (er : row ≡ row_of (register_at shape.regions q.offset)) (ep : p ≡ port_in (guard_words (guard_at s shape.place)) row)
-    (ea : r ≡ accessed shape row p q) where
+-- to a guard that there is
+guard-step : (s : State) (n : GuardNumber) (q : Request) {shape : Shape} → shape_at n.0 ≡ Some shape
+    → register_step (Risaf n) q s
+    ≡ settled (stepped true shape (guard_at s shape.place) q).answer shape.flag s
+    (with_guard_at s shape.place (stepped true shape (guard_at s shape.place) q).next)
+unfolding register_step guard_of with_guard
+guard-step s n q e = let f = found n.0 e in rw (f.0, f.1) refl
+
+module _ (s : State) (n : GuardNumber) (q : Request) {shape : Shape} {row : Row} {p : Port} {r : Accessed Port} (es : shape_at n.0 ≡ Some shape)
+    (er : row_at shape.regions q.offset ≡ Some row) (ep : p ≡ port_in (guard_words (guard_at s shape.place)) row)
+    (ea : r ≡ accessed true shape row p q) where
   abbrev g : Guard
   g = guard_at s shape.place
 
@@ -58,8 +66,8 @@ module _ (s : State) (n : GuardNumber) (q : Request) {shape : Shape} {row : Row}
       ≡ settled r.answer shape.flag s
       (with_guard_at s shape.place
       (left r.answer g (cond q.write (with_word g row.place r.next.word) g) (with_word g iasr_at r.next.iasr)))
-  unfolding register_step stepped guard_of with_guard
-  register-is = rw (ea, ep, er, es)
+  unfolding stepped stepped_at
+  register-is = guard-step s n q es ∙ rw (ea, ep, er) refl
 
   pub register-answer : r.answer ≡ (register_step (Risaf n) q s).answer
   register-answer = sym (ap (λ (o : Outcome). o.answer) register-is)
@@ -67,9 +75,6 @@ module _ (s : State) (n : GuardNumber) (q : Request) {shape : Shape} {row : Row}
   pub register-written : {t : State} {v : ℕ} → r.answer ≡ Done v → q.write ≡ true
       → t ≡ with_guard_at s shape.place (with_word g row.place r.next.word) → t ≡ (register_step (Risaf n) q s).next
   register-written d w e = rw register-is (rw (d, w) e)
-
-  pub register-read : {v : ℕ} → r.answer ≡ Done v → q.write ≡ false → s ≡ (register_step (Risaf n) q s).next
-  register-read d w = rw register-is (rw (d, w) (sym (guard-same s shape.place)))
 
   pub register-refused : {t : State} {v : ℕ} → r.answer ≡ Refused v
       → t ≡ flagged shape.flag (with_guard_at s shape.place (with_word g iasr_at r.next.iasr))
@@ -80,110 +85,127 @@ module _ (s : State) (n : GuardNumber) (q : Request) {shape : Shape} {row : Row}
   register-rejected d = rw register-is (rw d refl)
 
 -- where there is no register
-module _ (s : State) (n : GuardNumber) (q : Request) {shape : Shape} {row : Row} (es : shape ≡ shape_of n.0)
-    (er : row ≡ row_of (register_at shape.regions q.offset)) where
+module _ (s : State) (n : GuardNumber) (q : Request) where
   abbrev Leaves : Why → Type 0
   Leaves w = (Rejected w ≡ (register_step (Risaf n) q s).answer) × (s ≡ (register_step (Risaf n) q s).next)
 
-  none : {w : Why} → answer_of shape row (port_in (guard_words (guard_at s shape.place)) row) q ≡ Rejected w → Leaves w
-  unfolding accessed
-  none d = (sym d ∙ register-answer s n q es er refl refl, register-rejected s n q es er refl refl d)
+  none : {w : Why} → (stepped (is_guard n.0) (shape_of n.0) (guard_of s n.0) q).answer ≡ Rejected w → Leaves w
+  unfolding register_step
+  none d = rw d (refl, refl)
 
-  pub register-no-guard : shape.there ≡ false → Leaves NoSuch
-  unfolding answer_of checks_of answered_with
-  register-no-guard h = none (rw h refl)
+  pub register-no-guard : shape_at n.0 ≡ None → Leaves NoSuch
+  unfolding stepped stepped_at accessed answer_of checks_of checks_none answered_with
+  register-no-guard h = none (rw h (go (row_at (shape_of n.0).regions q.offset)))
+    where
+      go : (r : Option Row) → (stepped_at false (shape_of n.0) r (guard_of s n.0) q).answer ≡ Rejected NoSuch
+      go None = refl
+      go (Some row) = refl
 
-  pub register-misaligned : shape.there ≡ true → (q.offset % 4 ≡ 0 → ⊥) → Leaves Misaligned
-  unfolding answer_of checks_of answered_with
-  register-misaligned h m = none (rw (h, ne_eqb (q.offset % 4) 0 m) refl)
+  module _ {shape : Shape} (es : shape_at n.0 ≡ Some shape) where
+    there : {w : Why} → (stepped true shape (guard_of s n.0) q).answer ≡ Rejected w → Leaves w
+    there d = let f = found n.0 es in none (rw (f.1, ← f.0) d)
 
-  pub register-unknown : shape.there ≡ true → q.offset % 4 ≡ 0 → row.known ≡ false → Leaves NoRegister
-  unfolding answer_of checks_of answered_with reached_with
-  register-unknown h m k = none (rw (h, eq-eqb (q.offset % 4) 0 m, k) refl)
+    pub register-misaligned : (q.offset % 4 ≡ 0 → ⊥) → Leaves Misaligned
+    unfolding stepped stepped_at accessed answer_of checks_of checks_none answered_with
+    register-misaligned m = there (go (row_at shape.regions q.offset))
+      where
+        go : (r : Option Row) → (stepped_at true shape r (guard_of s n.0) q).answer ≡ Rejected Misaligned
+        go None = rw (ne_eqb (q.offset % 4) 0 m) refl
+        go (Some row) = rw (ne_eqb (q.offset % 4) 0 m) refl
+
+    pub register-unknown : q.offset % 4 ≡ 0 → row_at shape.regions q.offset ≡ None → Leaves NoRegister
+    unfolding stepped stepped_at checks_none answered_with reached_with
+    register-unknown m k = there (rw (k, eq-eqb (q.offset % 4) 0 m) refl)
 
 -- a read
-module _ (s : State) (n : GuardNumber) (q : Request) (w : q.write ≡ false) {shape : Shape} {a : Answer} (es : shape ≡ shape_of n.0)
+module _ (s : State) (n : GuardNumber) (q : Request) (w : q.write ≡ false) {shape : Shape} {a : Answer} (es : shape_at n.0 ≡ Some shape)
     (ea : a ≡ read_answer shape (guard_words (guard_at s shape.place)) q) where
-  abbrev row_read : Row
-  row_read = row_of (register_at shape.regions q.offset)
-
   abbrev read : Guard
   read = guard_at s shape.place
 
-  reads : answer_of shape row_read (port_in (guard_words read) row_read) q ≡ a
-  reads = read_is shape (guard_words read) q w ∙ sym ea
+  abbrev caught : Guard
+  caught = with_word read iasr_at (with_bit 32 read.iasr 0 true)
 
-  read-answer : a ≡ (register_step (Risaf n) q s).answer
-  unfolding accessed
-  read-answer = sym reads ∙ register-answer s n q es refl refl refl
+  reads : register_step (Risaf n) q s ≡ settled a shape.flag s (with_guard_at s shape.place (left a read read caught))
+  reads =
+      let e : (stepped true shape read q).answer ≡ a = read_is shape read q w ∙ sym ea in
+      guard-step s n q es
+      ∙ ap (λ (g : Guard). settled (stepped true shape read q).answer shape.flag s (with_guard_at s shape.place g)) (read_leaves shape read q w)
+      ∙ ap (λ (b : Answer). settled b shape.flag s (with_guard_at s shape.place (left b read read caught))) e
 
   pub register-read-kept : ((x : ℕ) → a ≡ Refused x → ⊥)
       → (a ≡ (register_step (Risaf n) q s).answer) × (s ≡ (register_step (Risaf n) q s).next)
-  unfolding accessed
-  register-read-kept o = (read-answer, by a reads o)
+  register-read-kept o = rw reads (refl, by a o)
     where
-      by : (b : Answer) → answer_of shape row_read (port_in (guard_words read) row_read) q ≡ b → ((x : ℕ) → b ≡ Refused x → ⊥)
-          → s ≡ (register_step (Risaf n) q s).next
-      by (Done x) e o = register-read s n q es refl refl refl e w
-      by (Refused x) e o = absurd (o x refl)
-      by (Rejected y) e o = register-rejected s n q es refl refl refl e
+      by : (b : Answer) → ((x : ℕ) → b ≡ Refused x → ⊥)
+          → s ≡ (settled b shape.flag s (with_guard_at s shape.place (left b read read caught))).next
+      by (Done x) o = sym (guard-same s shape.place)
+      by (Refused x) o = absurd (o x refl)
+      by (Rejected y) o = refl
 
   pub register-read-refused : {t : State} {x v : ℕ} → a ≡ Refused x → v ≡ with_bit 32 read.iasr 0 true
       → t ≡ flagged shape.flag (with_guard_at s shape.place (with_word read iasr_at v))
       → (a ≡ (register_step (Risaf n) q s).answer) × (t ≡ (register_step (Risaf n) q s).next)
-  unfolding accessed port_in
-  register-read-refused d ev e =
-      (read-answer, register-refused s n q es refl refl refl (reads ∙ d) (rw (reads ∙ d, ← ev) e))
+  register-read-refused d ev e = rw reads (refl, rw (d, ← ev) e)
 
 -- ---- a memory access
 
-module _ (s : State) (there : Bool) (n o width : ℕ) (k : Kind) {shape : Shape} {a : Answer} (es : shape ≡ shape_of n)
-    (ea : a ≡ memory_checked (there && shape.there) shape o width k) where
-  abbrev h : Guard
-  h = guard_at s shape.place
+pub memory-no-master : (s : State) (n o width : ℕ) (k : Kind) {there : Bool} → there ≡ false
+    → (Rejected NoSuch ≡ (memory_step there n o width k s).answer) × (s ≡ (memory_step there n o width k s).next)
+unfolding memory_step memory_stepped memory_answer memory_checks answered_with
+memory-no-master s n o width k e = rw e (refl, refl)
 
+module _ (s : State) {there : Bool} (et : there ≡ true) (n o width : ℕ) (k : Kind) {r : Result Shape Why}
+    (ea : r ≡ memory_checked (shape_at n) o width k) where
   abbrev answer_by : Verdict → Answer
-  answer_by v = memory_answer (there && shape.there) shape o width k v
+  answer_by v = memory_answer (is_guard n) (shape_of n) o width k v
 
-  -- with this answer
-  abbrev stepped_by : Answer → Outcome
-  stepped_by b = settled b shape.flag s (with_guard_at s shape.place (left b h h (faulted h o (heard shape.bus k))))
+  -- at a guard of this shape, with this answer
+  abbrev stepped_by : Shape → Answer → Outcome
+  stepped_by shape b =
+      let h = guard_at s shape.place in
+      settled b shape.flag s (with_guard_at s shape.place (left b h h (faulted h o (heard shape.bus k))))
 
-  memory-is : memory_step there n o width k s ≡ stepped_by (answer_by (decided shape.bus h.regions shape.regions o k))
+  abbrev verdict_at : Shape → Verdict
+  verdict_at shape = decided shape.bus (guard_at s shape.place).regions shape.regions o k
+
+  memory-is : memory_step there n o width k s ≡ stepped_by (shape_of n) (answer_by (verdict_at (shape_of n)))
   unfolding memory_step memory_stepped guard_of with_guard
-  memory-is = rw es refl
+  memory-is = rw et refl
 
-  by-verdict : (v : Verdict) → answer_by v ≡ onward a (ruled v)
-  by-verdict v = answer-onward (there && shape.there) shape o width k v ∙ ap (λ (x : Answer). onward x (ruled v)) (sym ea)
+  by-verdict : (v : Verdict) → answer_by v ≡ onward r (ruled v)
+  by-verdict v =
+      answer-onward o width k (is_guard n) (shape_of n) v
+      ∙ ap (λ (g : Option Shape). onward (memory_checked g o width k) (ruled v)) (sym (found-as n))
+      ∙ ap (λ (x : Result Shape Why). onward x (ruled v)) (sym ea)
 
-  pub memory-rejected : ((x : ℕ) → a ≡ Done x → ⊥)
-      → (a ≡ (memory_step there n o width k s).answer) × (s ≡ (memory_step there n o width k s).next)
-  memory-rejected t = rw (memory-is, by-verdict (decided shape.bus h.regions shape.regions o k)) (by a refl t)
-    where
-      by : (b : Answer) → a ≡ b → ((x : ℕ) → b ≡ Done x → ⊥)
-          → (b ≡ onward b (ruled (decided shape.bus h.regions shape.regions o k)))
-          × (s ≡ (stepped_by (onward b (ruled (decided shape.bus h.regions shape.regions o k)))).next)
-      by (Done x) e t = absurd (t x refl)
-      by (Refused x) e t = absurd (checked-unrefused (there && shape.there) shape o width k (sym ea ∙ e))
-      by (Rejected x) e t = (refl, refl)
+  pub memory-rejected : {why : Why} → r ≡ Err why
+      → (Rejected why ≡ (memory_step there n o width k s).answer) × (s ≡ (memory_step there n o width k s).next)
+  memory-rejected e = rw (memory-is, by-verdict (verdict_at (shape_of n)), e) (refl, refl)
 
   -- where nothing rejects it, by the verdict on the words lent
-  module _ {x : ℕ} (done : a ≡ Done x) {w : List ℕ} {v : Verdict} (ew : w ≡ h.regions) (lw : length w ≡ regions_words)
-      (ev : v ≡ decided_in shape.bus w shape.regions o k) where
-    memory-by : memory_step there n o width k s ≡ stepped_by (ruled v)
-    memory-by =
-        let m = regions-most n in
-        let e : shape.regions ≡ (shape_of n).regions = ap (λ (y : Shape). y.regions) es in
-        memory-is
-        ∙ ap stepped_by
-        (ap (λ (l : List ℕ). answer_by (decided shape.bus l shape.regions o k)) (sym ew)
-        ∙ sym (answer-in (there && shape.there) shape o width k shape.bus w shape.regions (omega arith) (omega arith))
-        ∙ ap answer_by (sym ev) ∙ by-verdict v ∙ ap (λ (y : Answer). onward y (ruled v)) done)
+  module _ {shape : Shape} (done : r ≡ Ok shape) where
+    pub memory-at : shape ≡ shape_of n
+    memory-at = (found n (checked-own o width k (shape_at n) (sym ea ∙ done))).0
 
-    pub memory-granted : v.reason ≡ None
-        → (Done (rule_number v.rule) ≡ (memory_step there n o width k s).answer) × (s ≡ (memory_step there n o width k s).next)
-    memory-granted e = rw memory-by (rw e (refl, sym (guard-same s shape.place)))
+    module _ {w : List ℕ} {v : Verdict} (ew : w ≡ (guard_at s shape.place).regions) (lw : length w ≡ regions_words)
+        (ev : v ≡ decided_in shape.bus w shape.regions o k) where
+      memory-by : memory_step there n o width k s ≡ stepped_by shape (ruled v)
+      memory-by =
+          let m = regions-most n in
+          let e : shape.regions ≡ (shape_of n).regions = ap (λ (y : Shape). y.regions) memory-at in
+          memory-is
+          ∙ ap (λ (y : Shape). stepped_by y (answer_by (verdict_at y))) (sym memory-at)
+          ∙ ap (stepped_by shape)
+          (ap (λ (l : List ℕ). answer_by (decided shape.bus l shape.regions o k)) (sym ew)
+          ∙ sym (answer-in (is_guard n) (shape_of n) o width k shape.bus w shape.regions (omega arith) (omega arith))
+          ∙ ap answer_by (sym ev) ∙ by-verdict v ∙ ap (λ (y : Result Shape Why). onward y (ruled v)) done)
 
-    pub memory-refused : {r : Reason} → v.reason ≡ Some r → {t : State} → t ≡ flagged shape.flag (with_guard_at s shape.place (faulted h o (heard shape.bus k)))
-        → (Refused (reason_number r) ≡ (memory_step there n o width k s).answer) × (t ≡ (memory_step there n o width k s).next)
-    memory-refused d e = rw memory-by (rw d (refl, e))
+      pub memory-granted : v.reason ≡ None
+          → (Done (rule_number v.rule) ≡ (memory_step there n o width k s).answer) × (s ≡ (memory_step there n o width k s).next)
+      memory-granted e = rw memory-by (rw e (refl, sym (guard-same s shape.place)))
+
+      pub memory-refused : {b : Reason} → v.reason ≡ Some b → {t : State}
+          → t ≡ flagged shape.flag (with_guard_at s shape.place (faulted (guard_at s shape.place) o (heard shape.bus k)))
+          → (Refused (reason_number b) ≡ (memory_step there n o width k s).answer) × (t ≡ (memory_step there n o width k s).next)
+      memory-refused d e = rw memory-by (rw d (refl, e))

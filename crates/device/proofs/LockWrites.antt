@@ -38,7 +38,7 @@ use Rattle.risaf.specs.declared.registers.BaseField.TheVariants.{Cfgr, Start, En
 use Rattle.risaf.specs.declared.registers.SubField.{SubField}
 use Rattle.risaf.specs.declared.registers.SubField.TheVariants.{SubCfgr, SubStart, SubEnd, Nest}
 use Rattle.risaf.specs.declared.registers.Register.{Register as GuardRegister}
-use Rattle.risaf.specs.declared.registers.Register.TheVariants.{OfHead, OfBase, OfSub, Unknown}
+use Rattle.risaf.specs.declared.registers.Register.TheVariants.{OfHead, OfBase, OfSub}
 use Rattle.risaf.specs.declared.rows.Row.{Row}
 use Rattle.device.proofs.Effects.{guard_written}
 
@@ -211,7 +211,6 @@ module _ (granule : ℕ) (w : List ℕ) (value : ℕ) (secure : Bool) where
   row-held (OfHead head) = head-held head
   row-held (OfBase x field) = base-held x field
   row-held (OfSub x s field) = sub_held x s field
-  row-held Unknown = λ free. record { cr = λ e h. h; regions = λ x p e. absurd (omega arith) }
 
 -- ---- what is done was not locked
 
@@ -235,15 +234,15 @@ done-free c value v e =
     (passed c.aligned (Rejected Misaligned) _ v (lit≤ tt)
     (passed c.present (Rejected NoSuch) _ v (lit≤ tt) e)))))))
 
-pub guard-written : (shape : Shape) (g : Guard) (reg : GuardRegister) (q : Request) (v : ℕ)
-    → risaf.answer_of shape (row_of reg) (port_in (guard_words g) (row_of reg)) q ≡ Done v
+pub guard-written : (there : Bool) (shape : Shape) (g : Guard) (reg : GuardRegister) (q : Request) (v : ℕ)
+    → risaf.answer_of there shape.bus (row_of reg) (port_in (guard_words g) (row_of reg)) q ≡ Done v
     → GuardHeld g (guard_written shape.granule (row_of reg) q g)
 unfolding risaf.answer_of risaf.checks_of
-guard-written shape g reg q v e =
+guard-written there shape g reg q v e =
     let row = row_of reg in
     let p = port_in (guard_words g) row in
     let locked = locked_of row.lock p in
-    let free = done-free (risaf.checks_of shape row p q) _ v e in
+    let free = done-free (risaf.checks_of there shape.bus row p q) _ v e in
     cond-by (GuardHeld g) q.write _ g
     (λ w.
     rw w (word-stored g row.place _

@@ -1,4 +1,5 @@
 -- Locks hold: document 01, "A lock bit is set by 1 and not cleared by 0; only reset clears it".
+use Rattle.std.specs.Prelude.{Option, Some, None, option_map}
 use mathlib.Core.Bool.{true, false, true≢false}
 use mathlib.Core.List.{List, [], ◌∷◌, map}
 use mathlib.Core.Path.{◌≡◌, refl, sym, ap, ◌∙◌, subst}
@@ -17,9 +18,12 @@ use Rattle.rifsc.specs.Contents as rifsc-contents
 use Rattle.rifsc.specs.Registers.{ppsr}
 use Rattle.risaf.specs.Contents as risaf-contents
 use Rattle.risaf.specs.Contents.{guard_from, region_reset, regions_reset}
-use Rattle.risaf.specs.Guards.{GuardRow, guards, shape_of}
+use Rattle.risaf.specs.Guards.{GuardRow, guards, is_guard, shape_of}
 use Rattle.risaf.specs.Port as risaf
 use Rattle.risaf.specs.Registers.{register_at}
+use Rattle.risaf.specs.Rows.{row_of, row_at}
+use Rattle.risaf.specs.declared.guards.Shape.{Shape}
+use Rattle.risaf.specs.declared.registers.Register.{Register as GuardRegister}
 use Rattle.risaf.specs.declared.contents.Guard.{Guard}
 use Rattle.device.specs.Locks.{Lock, glock, rimc_lock, rlock, guard_lock, sub_lock, Named, is_set, NotReset, NoReset, Settings, guard_settings, settings}
 use Rattle.device.specs.Run.{run}
@@ -30,7 +34,7 @@ use Rattle.device.specs.declared.event.Block.TheVariants.{Rifsc, Iac, Risaf}
 use Rattle.device.specs.declared.event.Event.{Event}
 use Rattle.device.specs.declared.event.Event.TheVariants.{Reset, Register, Peripheral, Memory, Master}
 use Rattle.device.proofs.LockWrites.{stored-by, RifscHeld, rifsc-still, rifsc-written, GuardHeld, guard-still, guard-written}
-use Rattle.device.proofs.Effects.{register_effect, effect, refused, step_by}
+use Rattle.device.proofs.Effects.{written_at, register_effect, effect, refused, step_by}
 use Rattle.device.proofs.Refusals.{refused-kept}
 
 -- ---- the locks of a state that hold in another
@@ -79,12 +83,22 @@ held-settings s t e =
 -- ---- where it is done
 
 held-register : (b : Block) (q : Request) (s : State) (v : ℕ) → (register_step b q s).answer ≡ Done v → Held s (register_effect b q s)
-unfolding register_step register_effect guard_of risaf.stepped risaf.accessed
+unfolding register_step register_effect guard_of risaf.stepped risaf.stepped_at risaf.accessed row_at
 held-register Rifsc q s v d = record { rifsc = rifsc-written s.rifsc _ q; guards = λ n. guard-still (guard_of s n) }
 held-register Iac q s v d = still s
 held-register (Risaf n) q s v d =
-    let shape = shape_of n.0 in
-    held-guard s n.0 _ (guard-written shape (guard_of s n.0) (register_at shape.regions q.offset) q v d)
+    held-guard s n.0 _ (go (register_at shape.regions q.offset) d)
+  where
+    shape : Shape
+    shape = shape_of n.0
+
+    g : Guard
+    g = guard_of s n.0
+
+    go : (r : Option GuardRegister) → (risaf.stepped_at (is_guard n.0) shape (option_map row_of r) g q).answer ≡ Done v
+        → GuardHeld g (written_at shape.granule (option_map row_of r) q g)
+    go None d = guard-still g
+    go (Some reg) d = guard-written (is_guard n.0) shape g reg q v d
 
 held-effect : (e : Event) (s : State) (v : ℕ) → NotReset e → (step e s).answer ≡ Done v → Held s (effect e s)
 unfolding effect step

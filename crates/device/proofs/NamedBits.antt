@@ -15,7 +15,7 @@ use Rattle.access.specs.declared.kind.Kind.{Kind}
 use Rattle.access.specs.declared.request.Request.{Request}
 use Rattle.rifsc.proofs.NamedBits as rifsc
 use Rattle.iac.proofs.NamedBits as iac
-use Rattle.risaf.specs.Guards.{shape_of}
+use Rattle.risaf.specs.Guards.{is_guard, shape_of}
 use Rattle.risaf.specs.declared.contents.Guard.{Guard}
 use Rattle.risaf.proofs.NamedBits as risaf
 use Rattle.risaf.proofs.NamedMemory.{memory_kept}
@@ -63,14 +63,14 @@ module _ {s : State} (own : Alike Kept named_state s s) where
   register-kept (Risaf n) q =
       let shape = shape_of n.0 in
       settled-kept (register_step (Risaf n) q s).answer shape.flag _
-      (guard-kept n.0 _ (risaf.stepped_kept shape (guards-have n.0) (own-guard n.0) q))
+      (guard-kept n.0 _ (risaf.stepped_kept (is_guard n.0) shape (guards-have n.0) (own-guard n.0) q))
 
   memory-next : (there : Bool) (n o width : ℕ) (k : Kind) → Near (memory_step there n o width k s).next
   unfolding memory_step
   memory-next there n o width k =
       let shape = shape_of n in
       settled-kept (memory_step there n o width k s).answer shape.flag _
-      (guard-kept n _ (memory_kept (there && shape.there) shape o width k (guards-have n) (own-guard n)))
+      (guard-kept n _ (memory_kept (there && is_guard n) shape o width k (guards-have n) (own-guard n)))
 
   next-kept : (e : Event) → NotReset e → Near (step e s).next
   unfolding step peripheral_step

@@ -27,7 +27,7 @@ use Rattle.iac.specs.Contents as iac-contents
 use Rattle.iac.specs.Held.{held_line}
 use Rattle.iac.proofs.NamedBits as iac
 use Rattle.risaf.specs.Contents as risaf-contents
-use Rattle.risaf.specs.Guards.{shape_of}
+use Rattle.risaf.specs.Guards.{is_guard, shape_of}
 use Rattle.risaf.specs.Memory.{memory_answer, memory_checks, memory_stepped}
 use Rattle.risaf.proofs.NamedBits as risaf
 use Rattle.risaf.proofs.NamedMemory.{memory-same}
@@ -92,14 +92,14 @@ module _ {s s' : State} (same : Alike Same named_state s s') where
       settled_same iac_flag o.0 (record { rifsc = same.rifsc; iac = o.1; guards = same.guards })
   register-same (Risaf n) q =
       let shape = shape_of n.0 in
-      let o = risaf.stepped_same shape (guards-have n.0) (same-guard n.0) q in
+      let o = risaf.stepped_same (is_guard n.0) shape (guards-have n.0) (same-guard n.0) q in
       settled_same shape.flag o.0 (with-guard n.0 same o.1)
 
   memory-both : (there : Bool) (n o width : ℕ) (k : Kind) → Both (memory_step there n o width k s) (memory_step there n o width k s')
   unfolding memory_step
   memory-both there n o width k =
       let shape = shape_of n in
-      let r = memory-same (there && shape.there) shape o width k (guards-have n) (same-guard n) in
+      let r = memory-same (there && is_guard n) shape o width k (guards-have n) (same-guard n) in
       settled_same shape.flag r.0 (with-guard n same r.1)
 
   -- the peripheral's SEC and PRIV are looked at where it is one there is

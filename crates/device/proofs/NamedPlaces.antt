@@ -33,7 +33,7 @@ use Rattle.risaf.specs.declared.guards.Shape.{Shape}
 use Rattle.risaf.specs.declared.registers.Head.TheVariants.{Cr, Iasr, Iacr, Iaesr, Iaddr}
 use Rattle.risaf.specs.declared.registers.BaseField.TheVariants.{Cfgr, Start, End, Cidcfgr}
 use Rattle.risaf.specs.declared.registers.SubField.TheVariants.{SubCfgr, SubStart, SubEnd, Nest}
-use Rattle.risaf.specs.declared.registers.Register.TheVariants.{OfHead, OfBase, OfSub, Unknown}
+use Rattle.risaf.specs.declared.registers.Register.TheVariants.{OfHead, OfBase, OfSub}
 use Rattle.risaf.proofs.NamedWords as risaf-named
 use Rattle.risaf.proofs.Shapes.{no_row, by-guard, regions-most}
 use Rattle.device.specs.Layout.{place_in, head_sizes, guards_at, state_words, rimccr_part, attr_part, isr_part, line_part, count_part, joined, layout, parts_of, state_of}
@@ -210,7 +210,6 @@ module _ (n : ℕ) where
   guard-has k m t (OfSub x s SubStart) (h, l) = within-is _ _ (sub_word x s start_at (omega arith) t l (lit< tt))
   guard-has k m t (OfSub x s SubEnd) (h, l) = within-is _ _ (sub_word x s end_at (omega arith) t l (lit< tt))
   guard-has k m t (OfSub x s Nest) (h, l) = within-is _ _ (sub_word x s nest_at (omega arith) t l (lit< tt))
-  guard-has k m t Unknown placed = within-zero _
 
 map_at : {A B : Type 0} (f : A → B) (l : List A) (i : ℕ) (d : A) (e : B) → i < length l → get_or (map f l) i e ≡ f (get_or l i d)
 map_at f [] i d e h = absurd (omega arith)

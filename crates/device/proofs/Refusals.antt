@@ -1,4 +1,5 @@
 -- What an event leaves, by its answer: document 01, "Numbers given back", the column "left".
+use Rattle.std.specs.Prelude.{Option, Some, None}
 use mathlib.Core.Bool.{Bool, true, false, cond, true≢false}
 use mathlib.Core.List.{List, map}
 use mathlib.Core.Path.{◌≡◌, refl, ap, ◌∙◌}
@@ -23,7 +24,8 @@ use Rattle.iac.specs.declared.contents.Iac.{Iac as IacWords}
 use Rattle.risaf.specs.Contents.{with_word}
 use Rattle.risaf.specs.Guards.{shape_of}
 use Rattle.risaf.specs.Memory.{faulted, recorded_fault}
-use Rattle.risaf.specs.Rows.{of_head}
+use Rattle.risaf.specs.Rows.{of_head, row_at}
+use Rattle.risaf.specs.declared.rows.Row.{Row}
 use Rattle.risaf.specs.declared.contents.Guard.{Guard}
 use Rattle.device.specs.Locks.{guard_settings, settings, configures}
 use Rattle.device.specs.State.{State, guard_of, with_guard, flagged}
@@ -34,7 +36,7 @@ use Rattle.device.specs.declared.event.Event.{Event}
 use Rattle.device.specs.declared.event.Event.TheVariants.{Reset, Register, Peripheral, Memory, Master}
 use Rattle.access.proofs.Answers.{why-number}
 use Rattle.device.specs.Refusals.{memory_fault, register_left, memory_left, refused_state}
-use Rattle.device.proofs.Effects.{register_effect, effect, register_refused, memory_refused, refused, step-leaves, step_by, with_guard-same}
+use Rattle.device.proofs.Effects.{written_at, register_effect, effect, register_refused, memory_refused, refused, step-leaves, step_by, with_guard-same}
 
 -- ---- any number but 0 and 1 leaves the state as it was
 
@@ -125,7 +127,11 @@ read-effect : (b : Block) (q : Request) (s : State) → q.write ≡ false → re
 unfolding register_effect rifsc.written iac.written
 read-effect Rifsc q s h = rw (h, rifsc.written)
 read-effect Iac q s h = rw (h, iac.written)
-read-effect (Risaf n) q s h = rw h (with_guard-same s n.0)
+read-effect (Risaf n) q s h = go (row_at (shape_of n.0).regions q.offset)
+  where
+    go : (r : Option Row) → with_guard s n.0 (written_at (shape_of n.0).granule r q (guard_of s n.0)) ≡ s
+    go None = with_guard-same s n.0
+    go (Some row) = rw h (with_guard-same s n.0)
 
 grant-effect : (e : Event) (s : State) → configures e ≡ false → effect e s ≡ s
 unfolding effect

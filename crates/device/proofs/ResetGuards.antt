@@ -1,4 +1,5 @@
 -- Guard after guard reset, by their numbers, is every guard reset.
+use Rattle.std.specs.Prelude.{Some, None}
 use mathlib.Core.Bool.{Bool, true, false, cond}
 use mathlib.Core.List.{List, [], ◌∷◌, map}
 use mathlib.Core.Path.{◌≡◌, refl, sym, ap, ap₂, ◌∙◌}
@@ -7,7 +8,7 @@ use native.Mathlib.Numerals.{add-one}
 use native.Mathlib.Omega.{arith}
 use lib.ListN.{length, set}
 use Rattle.risaf.specs.Contents.{guard_words, guard_from, reset}
-use Rattle.risaf.specs.Guards.{GuardRow, guards, guard_count, shape_in, shape_of, is_guard}
+use Rattle.risaf.specs.Guards.{GuardRow, guards, guard_count, shape_in, shape_at, shape_of, is_guard}
 use Rattle.risaf.specs.declared.contents.Guard.{Guard}
 use Rattle.risaf.specs.declared.guards.Shape.{Shape}
 use Rattle.rifsc.specs.Contents as rifsc
@@ -16,24 +17,23 @@ use Rattle.iac.specs.Contents as iac
 use Rattle.iac.specs.declared.contents.Iac.{Iac}
 use Rattle.device.specs.Layout.{state_of}
 use Rattle.device.specs.State.{State, with_rifsc, with_iac, with_guards, with_guard_at, with_guard, reset_state}
+use Rattle.risaf.proofs.Shapes.{found}
 use Rattle.device.proofs.GuardLayout.{guards-count}
 
 -- ---- the guard with a number, if there is one
 
-module _ (s : State) (n : ℕ) {shape : Shape} (es : shape ≡ shape_of n) where
-  is-there : {b : Bool} → shape.there ≡ b → is_guard n ≡ b
-  is-there h = sym (ap (λ (x : Shape). x.there) es) ∙ h
-
-  pub guard-reset : {t : State} {w : List ℕ} → shape.there ≡ true → w ≡ guard_words (reset shape.granule)
+module _ (s : State) (n : ℕ) where
+  pub guard-reset : {shape : Shape} {t : State} {w : List ℕ} → shape_at n ≡ Some shape → w ≡ guard_words (reset shape.granule)
       → t ≡ with_guard_at s shape.place (guard_from w) → t ≡ cond (is_guard n) (with_guard s n (reset (shape_of n).granule)) s
   unfolding with_guard
-  guard-reset h ew et =
-      rw (is-there h)
+  guard-reset {shape} e ew et =
+      let f = found n e in
+      rw f.1
       (et ∙ ap (λ (u : List ℕ). with_guard_at s shape.place (guard_from u)) ew
-      ∙ ap (λ (x : Shape). with_guard_at s x.place (reset x.granule)) es)
+      ∙ ap (λ (x : Shape). with_guard_at s x.place (reset x.granule)) f.0)
 
-  pub guard_none : shape.there ≡ false → s ≡ cond (is_guard n) (with_guard s n (reset (shape_of n).granule)) s
-  guard_none h = rw (is-there h) refl
+  pub guard_none : shape_at n ≡ None → s ≡ cond (is_guard n) (with_guard s n (reset (shape_of n).granule)) s
+  guard_none e = rw e refl
 
 -- ---- guards stored one after the other, from a place on
 
@@ -77,7 +77,7 @@ abbrev pub numbers : ℕ
 numbers = 24
 
 reset-all : (gs : List Guard) → length gs ≡ guard_count → reset_below numbers gs ≡ map (λ (g : GuardRow). reset g.granule) guards
-unfolding stored shape_of shape_in
+unfolding stored shape_of shape_at shape_in
 reset-all gs e = stored-all (map (λ (g : GuardRow). reset g.granule) guards) gs e
 
 pub state-reset : (m : List ℕ) (s : State) {t : State} {r : Rifsc} {i : Iac} → r ≡ rifsc.reset → t ≡ with_rifsc s r

@@ -12,7 +12,7 @@ use Rattle.rifsc.specs.Masters.{is_master, attributes_of, carried}
 use Rattle.rifsc.specs.Peripherals.{exists, filter_of, grants}
 use Rattle.rifsc.specs.Port as rifsc
 use Rattle.iac.specs.Port as iac
-use Rattle.risaf.specs.Guards.{shape_of}
+use Rattle.risaf.specs.Guards.{is_guard, shape_of}
 use Rattle.risaf.specs.Memory.{memory_stepped}
 use Rattle.risaf.specs.Port as risaf
 use Rattle.device.specs.State.{State, guard_of, with_rifsc, with_iac, with_guard, flagged, reset_state}
@@ -49,7 +49,7 @@ register_step Iac q s =
     settled o.answer iac_flag s (with_iac s o.next)
 register_step (Risaf n) q s =
     let shape = shape_of n.0 in
-    let o = risaf.stepped shape (guard_of s n.0) q in
+    let o = risaf.stepped (is_guard n.0) shape (guard_of s n.0) q in
     settled o.answer shape.flag s (with_guard s n.0 o.next)
 
 -- ---- a peripheral access; refused, it raises the peripheral's index
@@ -80,7 +80,7 @@ peripheral_step a s = settled (answered (peripheral_checks a s) 0) (record { 0 =
 unfoldable pub memory_step : Bool → ℕ → ℕ → ℕ → Kind → State → Outcome
 memory_step there n o width k s =
     let shape = shape_of n in
-    let r = memory_stepped (there && shape.there) shape (guard_of s n) o width k in
+    let r = memory_stepped (there && is_guard n) shape (guard_of s n) o width k in
     settled r.answer shape.flag s (with_guard s n r.next)
 
 -- ---- any event

@@ -5,8 +5,7 @@ ghost use Rattle.device.specs.Step.{memory_step};
 use crate::flags::raise;
 use crate::guards::{load_faults, load_words, store_faults};
 use crate::layout::STATE_WORDS;
-use access::{Answer, Kind};
-use regions::NO_REASON;
+use access::{Answer, Kind, Why};
 use risaf::{GuardNumber, HEAD_WORDS, memory_checked};
 
 // A memory access: granted, it writes nothing. there says whether the master is one there is.
@@ -21,20 +20,22 @@ pub(crate) fn access_memory(
     ensures answer { result ≡ (memory_step there guard.0 o width k (state_of state.old)).answer }
     ensures next { state_of state.new ≡ (memory_step there guard.0 o width k (state_of state.old)).next }
 {
-    let shape = guard.shape();
-    let checked = memory_checked(there & shape.there, shape, o, width, k);
-    let Answer::Done(_) = checked else {
-        return checked;
+    if !there {
+        return Answer::Rejected(Why::NoSuch);
+    }
+    let shape = match memory_checked(guard.shape(), o, width, k) {
+        Ok(shape) => shape,
+        Err(why) => return Answer::Rejected(why),
     };
     let bus = shape.bus;
     let words = load_words(state, shape.place);
     let verdict = regions::decide(bus, &words[HEAD_WORDS..], shape.regions, o, k);
-    if verdict.reason == NO_REASON {
-        return Answer::Done(verdict.rule);
-    }
+    let Some(reason) = verdict.reason else {
+        return Answer::Done(verdict.rule.number());
+    };
     let heard = bus.hears(k);
     let faults = load_faults(state, shape.place).recorded(o, heard);
     store_faults(state, shape.place, faults);
     raise(state, shape.flag);
-    Answer::Refused(verdict.reason)
+    Answer::Refused(reason.number())
 }

@@ -7,7 +7,7 @@ use crate::controller::{load_seen, store_register, stored};
 use crate::flags::{load_word, raise, rewrite};
 use crate::guards::{load_words, store_word};
 use crate::layout::STATE_WORDS;
-use access::{Answer, Flag, Request, Why};
+use access::{Accessed, Answer, Flag, Request, Why};
 use iac::Seen;
 use risaf::{CAEF, GuardNumber, IASR, Port};
 
@@ -39,7 +39,7 @@ pub(crate) fn access_rifsc(state: &mut [u32; STATE_WORDS], q: Request) -> Answer
     }
     let reg = rifsc::register_at(q.offset);
     let row = reg.row();
-    let rifsc::port::Accessed { answer, next } = load_seen(state, reg, row).access(reg, row, q);
+    let Accessed { answer, next } = load_seen(state, reg, row).access(reg, row, q);
     match answer {
         Answer::Done(_) => store_register(state, reg, next.word),
         Answer::Refused(_) => raise(state, RIFSC_FLAG),
@@ -78,7 +78,7 @@ pub(crate) fn access_iac(state: &mut [u32; STATE_WORDS], q: Request) -> Answer
     let seen = Seen {
         word: load_word(state, reg),
     };
-    let iac::port::Accessed { answer, next } = seen.access(reg, row, q);
+    let Accessed { answer, next } = seen.access(reg, row, q);
     match answer {
         Answer::Done(_) => rewrite(state, reg, row.named, seen.word, next.word),
         Answer::Refused(_) => raise(state, IAC_FLAG),
@@ -93,7 +93,9 @@ fn read_guard(state: &mut [u32; STATE_WORDS], guard: GuardNumber, q: Request) ->
     ensures answer { result ≡ (register_step (Risaf guard) q (state_of state.old)).answer }
     ensures next { state_of state.new ≡ (register_step (Risaf guard) q (state_of state.old)).next }
 {
-    let shape = guard.shape();
+    let Some(shape) = guard.shape() else {
+        return Answer::Rejected(Why::NoSuch);
+    };
     let held = load_words(state, shape.place);
     let answer = risaf::read(held, shape, q);
     if let Answer::Refused(_) = answer {
@@ -113,19 +115,17 @@ pub(crate) fn access_guard(state: &mut [u32; STATE_WORDS], guard: GuardNumber, q
     if !q.write {
         return read_guard(state, guard, q);
     }
-    let shape = guard.shape();
-    if !shape.there {
+    let Some(shape) = guard.shape() else {
         return Answer::Rejected(Why::NoSuch);
-    }
+    };
     if q.offset % 4 != 0 {
         return Answer::Rejected(Why::Misaligned);
     }
-    let row = risaf::row_at(shape.regions, q.offset);
-    if !row.known {
+    let Some(row) = risaf::row_at(shape.regions, q.offset) else {
         return Answer::Rejected(Why::NoRegister);
-    }
+    };
     let port = Port::at(load_words(state, shape.place), row);
-    let risaf::port::Accessed { answer, next } = port.access(shape, row, q);
+    let Accessed { answer, next } = port.access(shape, row, q);
     match answer {
         Answer::Done(_) => store_word(state, shape.place, row.place, next.word),
         Answer::Refused(_) => {

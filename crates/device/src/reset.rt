@@ -25,8 +25,7 @@ fn guard_words(granule: u32) -> [u32; GUARD_WORDS]
 fn reset_guard(state: &mut [u32; STATE_WORDS], guard: GuardNumber)
     ensures { state_of state.new ≡ cond (is_guard guard.0) (with_guard (state_of state.old) guard.0 (guard_reset (shape_of guard.0).granule)) (state_of state.old) }
 {
-    let shape = guard.shape();
-    if shape.there {
+    if let Some(shape) = guard.shape() {
         let start = guard_start(shape.place);
         state[start..start + GUARD_WORDS].copy_from_slice(&guard_words(shape.granule));
     }

@@ -8,12 +8,14 @@ use Rattle.words.specs.Bit.{bit, word, merged, with_bit}
 use Rattle.words.proofs.Laws.{bit_word, bit-with_bit, with_bit-lt, word-ext}
 use Rattle.words.proofs.Masks.{merged_by}
 use Rattle.regions.specs.Words.{sec_bit}
+use Rattle.access.specs.Answer.{left}
 use Rattle.access.specs.Checks.{unless, answered_with, reached_with}
-use Rattle.access.specs.declared.answer.Answer.TheVariants.{Rejected}
-use Rattle.access.specs.declared.answer.Why.TheVariants.{Misaligned}
+use Rattle.access.specs.declared.answer.Answer.{Answer}
+use Rattle.access.specs.declared.answer.Answer.TheVariants.{Done, Refused, Rejected}
+use Rattle.access.specs.declared.answer.Why.TheVariants.{Misaligned, NoRegister}
 use Rattle.access.specs.declared.request.Request.{Request}
-use Rattle.risaf.specs.Port.{allowed_of, answer_of, bit_if, checks_of, checks_none, port_in, read_answer, read_at, read_reached, subcfgr_written, accessed, stepped, stepped_at}
-use Rattle.risaf.specs.Contents.{guard_words}
+use Rattle.risaf.specs.Port.{allowed_of, answer_of, bit_if, checks_of, checks_none, port_in, read_answer, read_at, read_reached, subcfgr_written, refused_port, accessed, stepped, stepped_at}
+use Rattle.risaf.specs.Contents.{iasr_at, guard_words, with_word}
 use Rattle.risaf.specs.declared.contents.Guard.{Guard}
 use Rattle.risaf.specs.Rows.{row_at}
 use Rattle.risaf.specs.declared.guards.Shape.{Shape}
@@ -58,3 +60,26 @@ read_is shape g q h = go (row_at shape.regions q.offset)
     go : (r : Option Row) → (stepped_at true shape r g q).answer ≡ unless (eqb (q.offset % 4) 0) (Rejected Misaligned) (read_at r (guard_words g) q)
     go None = refl
     go (Some row) = rw h refl
+
+-- and it leaves all as it was, but CAEF where it is refused
+pub read_leaves : (shape : Shape) (g : Guard) (q : Request) → q.write ≡ false
+    → (stepped true shape g q).next ≡ left (stepped true shape g q).answer g g (with_word g iasr_at (with_bit 32 g.iasr 0 true))
+unfolding stepped stepped_at accessed checks_none answered_with reached_with port_in
+read_leaves shape g q h = go (row_at shape.regions q.offset)
+  where
+    none : (b : Bool) → g ≡ left (unless b (Rejected Misaligned) (Rejected NoRegister)) g g (with_word g iasr_at (with_bit 32 g.iasr 0 true))
+    none true = refl
+    none false = refl
+
+    some : (row : Row) (a : Answer) {w : Bool} → w ≡ false → (h : Guard) (t : Port)
+        → let p = port_in (guard_words g) row in
+        left a g (cond w h g) (with_word g iasr_at (left a p (cond w t p) (refused_port p)).iasr)
+        ≡ left a g g (with_word g iasr_at (with_bit 32 g.iasr 0 true))
+    some row (Done v) e h t = rw e refl
+    some row (Refused v) e h t = refl
+    some row (Rejected why) e h t = refl
+
+    go : (r : Option Row)
+        → (stepped_at true shape r g q).next ≡ left (stepped_at true shape r g q).answer g g (with_word g iasr_at (with_bit 32 g.iasr 0 true))
+    go None = none (eqb (q.offset % 4) 0)
+    go (Some row) = some row (answer_of true shape.bus row (port_in (guard_words g) row) q) h _ _

@@ -69,15 +69,13 @@ found n e = (rw e refl, rw e refl)
 pub missed : (n : ℕ) → shape_at n ≡ None → is_guard n ≡ false
 missed n e = rw e refl
 
--- only where there says so
-pub found-there : (there : Bool) (n : ℕ) → cond there (shape_at n) None ≡ cond (there && is_guard n) (Some (shape_of n)) None
+pub found-as : (n : ℕ) → shape_at n ≡ cond (is_guard n) (Some (shape_of n)) None
 unfolding shape_of
-found-there true n = go (shape_at n)
+found-as n = go (shape_at n)
   where
     go : (r : Option Shape) → r ≡ cond (is_some r) (Some (unwrap_or r no_shape)) None
     go None = refl
     go (Some shape) = refl
-found-there false n = refl
 
 -- ---- a test that every row passes
 
@@ -122,3 +120,6 @@ window-most n =
 
 pub place-lt : (n : ℕ) → (shape_of n).place < guard_count
 place-lt n = by-guard (λ s. s.place < guard_count) n (lit< tt) (λ i h q. h)
+
+pub place-found : (n : ℕ) {shape : Shape} → shape_at n ≡ Some shape → shape.place < guard_count
+place-found n e = rw (found n e).0 (place-lt n)

@@ -1,9 +1,9 @@
 -- `device::registers::access_guard` meets its contract, by how the access ends.
-use mathlib.Core.Path.{refl, ap, ◌∙◌}
+use mathlib.Core.Path.{ap, sym, ◌∙◌}
 use borrow.Author.Tests.{not-true, not-false}
 use lib.Dec.{lit<}
 use Rattle.risaf.proofs.RowPlaces.{place-fits}
-use Rattle.risaf.proofs.Shapes.{place-lt}
+use Rattle.risaf.proofs.Shapes.{place-found}
 use Rattle.device.specs.Layout.{state_of}
 use Rattle.device.specs.State.{flagged}
 use Rattle.device.proofs.GuardSteps.{register-no-guard, register-misaligned, register-unknown, register-answer, register-written, register-refused, register-rejected}
@@ -17,45 +17,43 @@ pub returns-then-not-q : goal.returns-then-not-q
 returns-then-not-q c =
     record { answer = c.read_guard.ensures.answer; next = c.read_guard.ensures.next }
 
-pub returns-then-not-shape : goal.returns-then-not-shape
-returns-then-not-shape c =
+pub returns-in_default : goal.returns-in_default
+returns-in_default c =
     let a = c.args in
-    let t = state_of a.state.now in
-    let all = register-no-guard t a.guard a.q c.shape-shape.ensures refl (not-true c.shape-shape.result.there c.if-not-shape.true) in
+    let all = register-no-guard (state_of a.state.now) a.guard a.q (sym c.shape.ensures ∙ c.in_default.is) in
     record { answer = all.0; next = all.1 }
 
 pub returns-then-q-ne0 : goal.returns-then-q-ne0
 returns-then-q-ne0 c =
     let a = c.args in
-    let t = state_of a.state.now in
-    let all = register-misaligned t a.guard a.q c.shape-shape.ensures refl (not-false c.shape-shape.result.there c.if-not-shape.false) c.if-q-ne0.true in
+    let all = register-misaligned (state_of a.state.now) a.guard a.q (sym c.shape.ensures ∙ c.in-Some.is) c.if-q-ne0.true in
     record { answer = all.0; next = all.1 }
 
-pub returns-then-not-row : goal.returns-then-not-row
-returns-then-not-row c =
+pub returns-in_default-row_at : goal.returns-in_default-row_at
+returns-in_default-row_at c =
     let a = c.args in
-    let t = state_of a.state.now in
-    let all = register-unknown t a.guard a.q c.shape-shape.ensures c.row_at-row.ensures (not-false c.shape-shape.result.there c.if-not-shape.false) c.if-q-ne0.false (not-true c.row_at-row.result.known c.if-not-row.true) in
+    let all = register-unknown (state_of a.state.now) a.guard a.q (sym c.shape.ensures ∙ c.in-Some.is) c.if-q-ne0.false
+    (sym c.row_at.ensures ∙ c.in_default-row_at.is) in
     record { answer = all.0; next = all.1 }
 
 pub load_words-requires : goal.load_words-requires
 load_words-requires c =
-    rw c.shape-shape.ensures (place-lt _)
+    place-found c.args.guard.0 (sym c.shape.ensures ∙ c.in-Some.is)
 
 pub store_word-requires : goal.store_word-requires
 store_word-requires c =
-    (rw c.shape-shape.ensures (place-lt _), rw c.row_at-row.ensures (place-fits _ _))
+    (place-found c.args.guard.0 (sym c.shape.ensures ∙ c.in-Some.is), place-fits c.in-Some.shape.regions c.args.q.offset (sym c.row_at.ensures ∙ c.in-Some-row_at.is))
 
 pub store_word-requires-in-Refused : goal.store_word-requires-in-Refused
 store_word-requires-in-Refused c =
-    (rw c.shape-shape.ensures (place-lt _), lit< tt)
+    (place-found c.args.guard.0 (sym c.shape.ensures ∙ c.in-Some.is), lit< tt)
 
 pub returns-in-Done : goal.returns-in-Done
 returns-in-Done c =
     let a = c.args in
     let t = state_of a.state.now in
-    let es = c.shape-shape.ensures in
-    let er = c.row_at-row.ensures in
+    let es = sym c.shape.ensures ∙ c.in-Some.is in
+    let er = sym c.row_at.ensures ∙ c.in-Some-row_at.is in
     let ep = c.at-port.ensures ∙ rw c.load_words.ensures in
     let ea = c.access-answer.ensures in
     record { answer = register-answer t a.guard a.q es er ep ea; next = register-written t a.guard a.q es er ep ea c.in-Done.is (not-false a.q.write c.if-not-q.false) c.store_word.ensures }
@@ -64,8 +62,8 @@ pub returns-in-Refused : goal.returns-in-Refused
 returns-in-Refused c =
     let a = c.args in
     let t = state_of a.state.now in
-    let es = c.shape-shape.ensures in
-    let er = c.row_at-row.ensures in
+    let es = sym c.shape.ensures ∙ c.in-Some.is in
+    let er = sym c.row_at.ensures ∙ c.in-Some-row_at.is in
     let ep = c.at-port.ensures ∙ rw c.load_words.ensures in
     let ea = c.access-answer.ensures in
     record { answer = register-answer t a.guard a.q es er ep ea; next = register-refused t a.guard a.q es er ep ea c.in-Refused.is (c.raise.ensures ∙ ap (flagged _) c.store_word-in-Refused.ensures) }
@@ -74,8 +72,8 @@ pub returns-in-Rejected : goal.returns-in-Rejected
 returns-in-Rejected c =
     let a = c.args in
     let t = state_of a.state.now in
-    let es = c.shape-shape.ensures in
-    let er = c.row_at-row.ensures in
+    let es = sym c.shape.ensures ∙ c.in-Some.is in
+    let er = sym c.row_at.ensures ∙ c.in-Some-row_at.is in
     let ep = c.at-port.ensures ∙ rw c.load_words.ensures in
     let ea = c.access-answer.ensures in
     record { answer = register-answer t a.guard a.q es er ep ea; next = register-rejected t a.guard a.q es er ep ea c.in-Rejected.is }
