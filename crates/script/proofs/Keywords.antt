@@ -11,16 +11,17 @@ use lib.ListN.{length, get_or, take, drop, length-drop}
 use lib.Seq.{get_or-drop, get_or-take, take_all, take-suc, take-take, take-append_seam}
 use Rattle.std.specs.Prelude.{Option, Some, None}
 use Rattle.device.specs.declared.event.Event.TheVariants.{Reset}
+use Rattle.device.specs.declared.event.Block.{Block}
 use Rattle.device.specs.declared.event.Block.TheVariants.{Rifsc, Iac, Risaf}
 use Rattle.print.specs.Bytes.{bytes}
-use Rattle.script.specs.Command.{◌>>=◌, by_keyword, command_in, lines_of, reset_line, blocks_of, request_fields, register_line, peripheral_line, memory_line, master_line, map_line}
+use Rattle.script.specs.Command.{◌>>=◌, by_keyword, command_in, lines_of, reset_line, blocks_of, request_fields, register_line, peripheral_line, memory_line, master_line, map_line, rights_fields}
 use Rattle.script.specs.Fields.{tab, field_at, fields_of, onto, same}
-use Rattle.script.specs.Numbers.{every, decimal_of}
+use Rattle.script.specs.Numbers.{decimal_of}
 use Rattle.script.specs.Places.{rest_at, field_from, end_from, ends_at, begins_at, Starts}
 use Rattle.script.specs.declared.command.Command.{Command}
 use Rattle.script.specs.declared.command.Command.TheVariants.{Event}
 use Rattle.script.proofs.Places.{Field, field, field-bytes, field_of, no_tabs, some-there, starts-begin, starts-field, starts-next, its-count, other-count}
-use Rattle.script.proofs.Readings.{request-there}
+use Rattle.script.proofs.Readings.{fewer}
 use Rattle.script.proofs.Told.{both_true}
 
 same-is : (s t : List ℕ) → same s t ≡ true → s ≡ t
@@ -158,42 +159,47 @@ block-alone (f ∷ []) h = absurd (omega arith)
 block-alone (f ∷ g ∷ []) h = (refl, refl, refl)
 block-alone (f ∷ g ∷ i ∷ fs) h = absurd (omega arith)
 
--- ---- the blocks of a register line
+-- ---- the blocks of a register line, whose field is at place p
 
-module _ {line : List ℕ} {fs : List (List ℕ)} {p : ℕ} (s : Starts line fs 1 p) where
-  pub is-rifsc : begins_at line p (bytes "rifsc\t") ≡ true
-      → (register_line fs ≡ request_fields Rifsc 0 (rest_at (p + 6) line)) × (p + 6 ≤ suc (length line))
-  unfolding by_keyword blocks_of same every
-  is-rifsc h =
-      let e : suc (p + 5) ≡ p + 6 = omega arith in
-      let n : Starts line fs 2 (p + 6) = rw e at (word_next line p (bytes "rifsc") h s refl) in
-      (ap (λ (w : List ℕ). by_keyword w (blocks_of fs)) (word-field line p (bytes "rifsc") h s refl) ∙ sym (request-there n Rifsc), n.within)
+module _ (line : List ℕ) (p : ℕ) (within : p ≤ suc (length line)) where
+  -- the fields, with any keyword
+  abbrev fs : List (List ℕ)
+  fs = [] ∷ rest_at p line
 
-  pub is-iac : begins_at line p (bytes "iac\t") ≡ true
-      → (register_line fs ≡ request_fields Iac 0 (rest_at (p + 4) line)) × (p + 4 ≤ suc (length line))
-  unfolding by_keyword blocks_of same every
-  is-iac h =
-      let e : suc (p + 3) ≡ p + 4 = omega arith in
-      let n : Starts line fs 2 (p + 4) = rw e at (word_next line p (bytes "iac") h s refl) in
-      (ap (λ (w : List ℕ). by_keyword w (blocks_of fs)) (word-field line p (bytes "iac") h s refl) ∙ sym (request-there n Iac), n.within)
+  second : Starts line fs 1 p
+  second = record { has = omega arith; within = within; rest = refl }
 
-  pub is-risaf : begins_at line p (bytes "risaf\t") ≡ true
-      → (register_line fs ≡ (decimal_of (field_at fs 2) >>= λ guard. request_fields (Risaf (record { 0 = guard })) 3 fs))
-      × Starts line fs 2 (p + 6)
-  unfolding by_keyword blocks_of same every
-  is-risaf h =
-      let e : suc (p + 5) ≡ p + 6 = omega arith in (
-        ap (λ (w : List ℕ). by_keyword w (blocks_of fs)) (word-field line p (bytes "risaf") h s refl),
-        rw e at (word_next line p (bytes "risaf") h s refl),
-      )
+  -- and behind the block
+  pub behind : (word : List ℕ) → no_tabs word ≡ true → begins_at line p (word ++ (tab ∷ [])) ≡ true → Starts line fs 2 (p + suc (length word))
+  behind word plain h =
+      let e : p + suc (length word) ≡ suc (p + length word) = omega arith in
+      rw e (word_next line p word h second plain)
 
-pub no_block : {line : List ℕ} {fs : List (List ℕ)} {p : ℕ} → Starts line fs 1 p → begins_at line p (bytes "rifsc\t") ≡ false
-    → begins_at line p (bytes "iac\t") ≡ false → begins_at line p (bytes "risaf\t") ≡ false → register_line fs ≡ None
-unfolding blocks_of
-no_block {line = line} {fs = fs} {p = p} s a b c =
-    past _ (bytes "rifsc") _ _ (on-right (λ e. (block-alone fs e).0) (word-not line p (bytes "rifsc") s (lit< tt) a))
-    (past _ (bytes "iac") _ _ (on-right (λ e. (block-alone fs e).1) (word-not line p (bytes "iac") s (lit< tt) b))
-    (past _ (bytes "risaf") _ _ (on-right (λ e. (block-alone fs e).2) (word-not line p (bytes "risaf") s (lit< tt) c)) (none _)))
+  pub is-block : (word : List ℕ) → no_tabs word ≡ true → begins_at line p (word ++ (tab ∷ [])) ≡ true
+      → register_line fs ≡ by_keyword word (blocks_of fs)
+  is-block word plain h = ap (λ (w : List ℕ). by_keyword w (blocks_of fs)) (word-field line p word h second plain)
+
+  pub no_block : begins_at line p (bytes "rifsc\t") ≡ false → begins_at line p (bytes "iac\t") ≡ false → begins_at line p (bytes "risaf\t") ≡ false
+      → register_line fs ≡ None
+  unfolding blocks_of
+  no_block a b c =
+      past _ (bytes "rifsc") _ _ (on-right (λ e. (block-alone fs e).0) (word-not line p (bytes "rifsc") second (lit< tt) a))
+      (past _ (bytes "iac") _ _ (on-right (λ e. (block-alone fs e).1) (word-not line p (bytes "iac") second (lit< tt) b))
+      (past _ (bytes "risaf") _ _ (on-right (λ e. (block-alone fs e).2) (word-not line p (bytes "risaf") second (lit< tt) c)) (none _)))
+
+-- what is asked of a block, by the fields behind it
+pub request-third : {line : List ℕ} {p : ℕ} (b : Block) (fs : List (List ℕ)) → Starts line fs 2 p → request_fields b 2 fs ≡ request_fields b 0 (rest_at p line)
+unfolding request_fields rights_fields
+request-third b [] s = absurd (omega (arith, s.has))
+request-third b (f ∷ []) s = absurd (omega (arith, s.has))
+request-third b (f ∷ g ∷ more) s = rw (s.rest, fewer 2 5 more)
+
+pub request-fourth : {line : List ℕ} {p : ℕ} (b : Block) (fs : List (List ℕ)) → Starts line fs 3 p → request_fields b 3 fs ≡ request_fields b 0 (rest_at p line)
+unfolding request_fields rights_fields
+request-fourth b [] s = absurd (omega (arith, s.has))
+request-fourth b (f ∷ []) s = absurd (omega (arith, s.has))
+request-fourth b (f ∷ g ∷ []) s = absurd (omega (arith, s.has))
+request-fourth b (f ∷ g ∷ h ∷ more) s = rw (s.rest, fewer 3 5 more)
 
 module _ (line : List ℕ) where
   first_field : Starts line (fields_of line) 0 0
@@ -235,13 +241,21 @@ module _ (line : List ℕ) where
           whole false k w f n q =
               absurd (true≢false (sym q ∙ other-count n (λ z. eqb-false (length line) 5 k (omega (arith, z, ap length w)))))
 
-  -- a line by its keyword, and where the next field starts
+  -- a line by its keyword, where the next field starts, and what it says by the fields from there on
   module _ (word : List ℕ) (plain : no_tabs word ≡ true) (h : begins_at line 0 (word ++ (tab ∷ [])) ≡ true) where
     pub line-by : command_in (fields_of line) ≡ by_keyword word (lines_of (fields_of line))
     line-by = ap (λ (w : List ℕ). by_keyword w (lines_of (fields_of line))) (word-field line 0 word h first_field plain)
 
     pub line-next : Starts line (fields_of line) 1 (suc (0 + length word))
     line-next = word_next line 0 word h first_field plain
+
+    pub line-rest : {r : List (List ℕ)} → r ≡ rest_at (suc (0 + length word)) line → (says : List (List ℕ) → Option Command)
+        → ((f : List ℕ) (fs : List (List ℕ)) → says ([] ∷ fs) ≡ says (f ∷ fs)) → says ([] ∷ r) ≡ says (fields_of line)
+    line-rest {r = r} e says same = go (fields_of line) line-next.has (e ∙ line-next.rest)
+      where
+        go : (fs : List (List ℕ)) → 1 ≤ length fs → r ≡ drop 1 fs → says ([] ∷ r) ≡ says fs
+        go [] h q = absurd (omega arith)
+        go (f ∷ fs) h q = rw q (same f fs)
 
   pub no_line : begins_at line 0 (bytes "mem\t") ≡ false → begins_at line 0 (bytes "reg\t") ≡ false → begins_at line 0 (bytes "per\t") ≡ false
       → begins_at line 0 (bytes "dma\t") ≡ false → begins_at line 0 (bytes "map\t") ≡ false

@@ -3,7 +3,6 @@ use Prim.Native.Char.{code}
 use Rattle.std.specs.Prelude.{Bool, cond, List, [], ◌∷◌, ℕ, ◌+◌, eqb, leb, length, Option, Some, None, option_and_then}
 use Rattle.device.specs.declared.event.Block.{Block}
 use Rattle.device.specs.declared.event.Block.TheVariants.{Rifsc, Iac, Risaf}
-use Rattle.device.specs.declared.event.Operation.{Operation}
 use Rattle.device.specs.declared.event.Event.TheVariants.{Reset, Register, Peripheral, Memory, Master}
 use Rattle.print.specs.Bytes.{bytes}
 use Rattle.risaf.specs.declared.guards.GuardNumber.{GuardNumber}

@@ -5,7 +5,7 @@
 --     Examples    the document's sample read, and lines that are bad
 -- What only code and proofs go by:
 --     Places      where a line's fields start and end
---     Blocks      what the block of a register line leaves to be read
+--     Blocks      what a register line says behind its block
 pub mod Blocks
 pub mod Command
 pub mod Examples

@@ -1,5 +1,5 @@
 -- Where a line's fields start and end, which is what code goes by.
-use Rattle.std.specs.Prelude.{Bool, cond, List, [], ◌∷◌, ◌≡◌, ℕ, zero, suc, ◌+◌, ◌*◌, ◌≤◌, eqb, ltb, length, get_or, take, drop, Option, Some, None, option_map}
+use Rattle.std.specs.Prelude.{Bool, cond, List, [], ◌∷◌, ◌≡◌, ℕ, zero, suc, ◌+◌, ◌*◌, ◌≤◌, eqb, ltb, length, get_or, take, drop, Option, None, option_map}
 use Rattle.script.specs.Command.{rights_fields}
 use Rattle.script.specs.Fields.{tab, field_at, fields_of, same}
 use Rattle.script.specs.Numbers.{decimal_of}

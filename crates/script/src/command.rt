@@ -1,11 +1,10 @@
-ghost use Rattle.std.specs.Prelude.{◌≡◌};
+ghost use Rattle.std.specs.Prelude.{◌≡◌, ◌∷◌, []};
 ghost use Rattle.script.specs.Fields.{fields_of};
-ghost use Rattle.script.specs.Places.{Starts};
 ghost use Rattle.script.specs.Command.{command_in, command_of, map_line};
 
 use crate::events::{master, memory, peripheral, register};
 use crate::fields::{LINE_MOST, begins};
-use crate::numbers::decimal_at;
+use crate::reader::Reader;
 use device::Event;
 use risaf::GuardNumber;
 
@@ -23,12 +22,11 @@ pub enum Command {
 }
 
 // `map` guard, from the field behind the keyword on
-fn map(line: &[u8], from: usize) -> Option<Command>
-    requires { Starts line.now (fields_of line.now) 1 from }
-    ensures { result ≡ map_line (fields_of line.now) }
+fn map(fields: &mut Reader) -> Option<Command>
+    ensures { result ≡ map_line ([] ∷ fields.old) }
 {
-    let (guard, end) = decimal_at(line, from)?;
-    if line.len() != end {
+    let guard = fields.decimal()?;
+    if !fields.is_empty() {
         return None;
     }
     Some(Command::Map(GuardNumber(guard)))
@@ -39,19 +37,19 @@ fn by_keyword(line: &[u8]) -> Option<Command>
     ensures { result ≡ command_in (fields_of line.now) }
 {
     if begins(line, 0, b"mem\t") {
-        return memory(line, KEYWORD_STEP);
+        return memory(&mut Reader::new(line, KEYWORD_STEP));
     }
     if begins(line, 0, b"reg\t") {
-        return register(line, KEYWORD_STEP);
+        return register(&mut Reader::new(line, KEYWORD_STEP));
     }
     if begins(line, 0, b"per\t") {
-        return peripheral(line, KEYWORD_STEP);
+        return peripheral(&mut Reader::new(line, KEYWORD_STEP));
     }
     if begins(line, 0, b"dma\t") {
-        return master(line, KEYWORD_STEP);
+        return master(&mut Reader::new(line, KEYWORD_STEP));
     }
     if begins(line, 0, b"map\t") {
-        return map(line, KEYWORD_STEP);
+        return map(&mut Reader::new(line, KEYWORD_STEP));
     }
     if begins(line, 0, b"reset") & (line.len() == RESET_LENGTH) {
         return Some(Command::Event(Event::Reset));

@@ -1,48 +1,21 @@
-ghost use Rattle.std.specs.Prelude.{◌≡◌, ◌≤◌, suc, length};
-ghost use Rattle.script.specs.Fields.{fields_of};
-ghost use Rattle.script.specs.Places.{Starts, last_rights, rest_at};
-ghost use Rattle.script.specs.Blocks.{block_line, block_place};
+ghost use Rattle.std.specs.Prelude.{◌≡◌, ◌∷◌, []};
 ghost use Rattle.script.specs.Command.{master_line, memory_line, peripheral_line, register_line, request_fields};
 
 use crate::command::Command;
-use crate::fields::begins;
-use crate::numbers::{HEX_STEP, LETTER_STEP, decimal_at, either_at, hex_at, operation_at};
+use crate::reader::Reader;
 use access::{Cid, Kind, Request};
 use device::{Block, Event, MasterAccess, MemoryAccess, PeripheralAccess, RegisterAccess};
 use rifsc::{MasterNumber, PeripheralNumber};
 use risaf::GuardNumber;
 
-// `iac` and the tab behind it.
-const IAC_STEP: usize = 4;
-
-// `rifsc` or `risaf` and the tab behind it.
-const RIF_STEP: usize = 6;
-
-// s/n p/u from `from` to the line's end
-fn last_rights(line: &[u8], from: usize) -> Option<(bool, bool)>
-    requires { from ≤ suc (length line.now) }
-    ensures { result ≡ last_rights (rest_at from line.now) }
+// offset r/w data s/n p/u, the last fields
+fn request(fields: &mut Reader, block: Block) -> Option<Command>
+    ensures { result ≡ request_fields block 0 fields.old }
 {
-    let second = from + LETTER_STEP;
-    if line.len() != second + 1 {
-        return None;
-    }
-    let secure = either_at(line, from, b's', b'n')?;
-    let privileged = either_at(line, second, b'p', b'u')?;
-    Some((secure, privileged))
-}
-
-// offset r/w data s/n p/u from `from` to the line's end
-fn request(line: &[u8], from: usize, block: Block) -> Option<Command>
-    requires { from ≤ suc (length line.now) }
-    ensures { result ≡ request_fields block 0 (rest_at from line.now) }
-{
-    let offset = hex_at(line, from)?;
-    let second = from + HEX_STEP;
-    let write = either_at(line, second, b'w', b'r')?;
-    let third = second + LETTER_STEP;
-    let value = hex_at(line, third)?;
-    let (secure, privileged) = last_rights(line, third + HEX_STEP)?;
+    let offset = fields.hex()?;
+    let write = fields.either(b'w', b'r')?;
+    let value = fields.hex()?;
+    let (secure, privileged) = fields.last_rights()?;
     Some(Command::Event(Event::Register(RegisterAccess {
         block,
         request: Request {
@@ -55,43 +28,23 @@ fn request(line: &[u8], from: usize, block: Block) -> Option<Command>
     })))
 }
 
-// The block of a register line, of `risaf` with the field of its number.
-fn block_at(line: &[u8], from: usize) -> Option<(Block, usize)>
-    requires { Starts line.now (fields_of line.now) 1 from }
-    ensures { (register_line (fields_of line.now) ≡ block_line result line.now) × (block_place result ≤ suc (length line.now)) }
-{
-    if begins(line, from, b"rifsc\t") {
-        return Some((Block::Rifsc, from + RIF_STEP));
-    }
-    if begins(line, from, b"iac\t") {
-        return Some((Block::Iac, from + IAC_STEP));
-    }
-    if !begins(line, from, b"risaf\t") {
-        return None;
-    }
-    let (guard, end) = decimal_at(line, from + RIF_STEP)?;
-    Some((Block::Risaf(GuardNumber(guard)), end + 1))
-}
-
 // ---- the lines, each from the field behind its keyword on
 
 // `reg` block offset r/w data s/n p/u
-pub(crate) fn register(line: &[u8], from: usize) -> Option<Command>
-    requires { Starts line.now (fields_of line.now) 1 from }
-    ensures { result ≡ register_line (fields_of line.now) }
+pub(crate) fn register(fields: &mut Reader) -> Option<Command>
+    ensures { result ≡ register_line ([] ∷ fields.old) }
 {
-    let (block, next) = block_at(line, from)?;
-    request(line, next, block)
+    let block = fields.block()?;
+    request(fields, block)
 }
 
 // `per` p r/w/x s/n p/u
-pub(crate) fn peripheral(line: &[u8], from: usize) -> Option<Command>
-    requires { Starts line.now (fields_of line.now) 1 from }
-    ensures { result ≡ peripheral_line (fields_of line.now) }
+pub(crate) fn peripheral(fields: &mut Reader) -> Option<Command>
+    ensures { result ≡ peripheral_line ([] ∷ fields.old) }
 {
-    let (p, end) = decimal_at(line, from)?;
-    let operation = operation_at(line, end + 1)?;
-    let (secure, privileged) = last_rights(line, end + 1 + LETTER_STEP)?;
+    let p = fields.decimal()?;
+    let operation = fields.operation()?;
+    let (secure, privileged) = fields.last_rights()?;
     Some(Command::Event(Event::Peripheral(PeripheralAccess {
         peripheral: PeripheralNumber(p),
         operation,
@@ -101,16 +54,15 @@ pub(crate) fn peripheral(line: &[u8], from: usize) -> Option<Command>
 }
 
 // `mem` guard offset width r/w cid s/n p/u
-pub(crate) fn memory(line: &[u8], from: usize) -> Option<Command>
-    requires { Starts line.now (fields_of line.now) 1 from }
-    ensures { result ≡ memory_line (fields_of line.now) }
+pub(crate) fn memory(fields: &mut Reader) -> Option<Command>
+    ensures { result ≡ memory_line ([] ∷ fields.old) }
 {
-    let (guard, guard_end) = decimal_at(line, from)?;
-    let offset = hex_at(line, guard_end + 1)?;
-    let (width, width_end) = decimal_at(line, guard_end + 1 + HEX_STEP)?;
-    let write = either_at(line, width_end + 1, b'w', b'r')?;
-    let (cid, cid_end) = decimal_at(line, width_end + 1 + LETTER_STEP)?;
-    let (secure, privileged) = last_rights(line, cid_end + 1)?;
+    let guard = fields.decimal()?;
+    let offset = fields.hex()?;
+    let width = fields.decimal()?;
+    let write = fields.either(b'w', b'r')?;
+    let cid = fields.decimal()?;
+    let (secure, privileged) = fields.last_rights()?;
     Some(Command::Event(Event::Memory(MemoryAccess {
         guard: GuardNumber(guard),
         offset,
@@ -125,16 +77,15 @@ pub(crate) fn memory(line: &[u8], from: usize) -> Option<Command>
 }
 
 // `dma` master guard offset width r/w
-pub(crate) fn master(line: &[u8], from: usize) -> Option<Command>
-    requires { Starts line.now (fields_of line.now) 1 from }
-    ensures { result ≡ master_line (fields_of line.now) }
+pub(crate) fn master(fields: &mut Reader) -> Option<Command>
+    ensures { result ≡ master_line ([] ∷ fields.old) }
 {
-    let (master, master_end) = decimal_at(line, from)?;
-    let (guard, guard_end) = decimal_at(line, master_end + 1)?;
-    let offset = hex_at(line, guard_end + 1)?;
-    let (width, width_end) = decimal_at(line, guard_end + 1 + HEX_STEP)?;
-    let write = either_at(line, width_end + 1, b'w', b'r')?;
-    if line.len() != width_end + LETTER_STEP {
+    let master = fields.decimal()?;
+    let guard = fields.decimal()?;
+    let offset = fields.hex()?;
+    let width = fields.decimal()?;
+    let write = fields.either(b'w', b'r')?;
+    if !fields.is_empty() {
         return None;
     }
     Some(Command::Event(Event::Master(MasterAccess {

@@ -5,6 +5,7 @@ mod command;
 mod events;
 mod fields;
 mod numbers;
+mod reader;
 
 pub use command::{Command, read_line};
 pub use print::{print_answer, print_bad, print_diff, print_end, print_guard, print_span};
