@@ -1,7 +1,9 @@
 -- Parts of a run: a call, what is written out, one part behind the other, and the end.
-use Rattle.std.proofs.Common.{◌≡◌, ℕ, ◌+◌, ◌-◌, ◌^◌, ◌<◌, ◌≤◌, Bool, true, false, cond, is_some, List, [], ◌∷◌, ◌++◌, length, take, drop, sym, refl, ap, ◌∙◌, append-nil, append_assoc, arith, take-add, take_at, leb-true, subst, eqb}
-use Rattle.std.specs.Prelude.{Option, Some, None, Result, Ok, Err, OnOk}
-use Rattle.std.specs.Io.KnownBytes.{Appends, Consumes, Keeps}
+use Rattle.std.proofs.Common.{◌≡◌, ℕ, ◌+◌, ◌-◌, ◌^◌, ◌<◌, ◌≤◌, Bool, true, false, cond, is_some, List, [], ◌∷◌, ◌++◌, length, take, drop, sym, refl, ap, ◌∙◌, append-nil, append_assoc, arith, take-add, take_at, take-append-drop, leb-true, subst, eqb}
+use Rattle.std.specs.Prelude.{Option, Some, None}
+use Rattle.std.specs.Io.KnownBytes.{Appends, Consumes}
+use Rattle.std.proofs.KnownBytes.{Appends-nil, Appends-trans, Consumes-nil, Consumes-trans}
+use Rattle.std.proofs.lemmas.List.{nil_from_length}
 use Rattle.print.specs.Bytes.{bytes}
 use Rattle.print.specs.Print.{bad_line}
 use Rattle.print.specs.Writing.{bytes_with, place_with}
@@ -14,21 +16,10 @@ use Rattle.stream.specs.Kept.{Kept, kept_at_start, kept_of, line_room}
 use Rattle.stream.specs.declared.blocks.Taken.{Taken}
 use Rattle.stream.specs.Transcript.{Lines, end_text, line, lines_in, rest}
 use Rattle.stream.proofs.Put.{Put, put-none, put-over, put_then}
+use Rattle.stream.proofs.Stops.{part_left}
+use Rattle.stream.proofs.Turns.{part}
 use Rattle.stream.proofs.Whole.{whole}
-use Rattle.suthrain.specs.declared.blocks.Next.{Next}
-use Rattle.suthrain.specs.Runs.{IfWritten, Part, Step, Transcribed, kept_by_all, put_by_all}
-
--- ---- known bytes
-
-pub appends-none : (x : Option (List ℕ)) → Appends x x []
-appends-none None = tt
-appends-none (Some xs) = sym (append-nil xs)
-
-pub appends-then : (x y z : Option (List ℕ)) (a b : List ℕ) → Appends x y a → Appends y z b → Appends x z (a ++ b)
-appends-then None y z a b p q = tt
-appends-then (Some xs) None z a b p q = absurd p
-appends-then (Some xs) (Some ys) None a b p q = absurd q
-appends-then (Some xs) (Some ys) (Some zs) a b p q = q ∙ ap (λ (l : List ℕ). l ++ b) p ∙ append_assoc xs a b
+use Rattle.suthrain.specs.Runs.{Part, Step, Transcribed, kept_by_all, put_by_all}
 
 -- ---- calls
 
@@ -103,7 +94,7 @@ filled k c =
 pub part-none : (k : Kept) (x : Option (List ℕ)) (b : List ℕ) → Part k k [] x x b b
 unfolding kept_by_all all_taken put_by_all
 part-none k x b =
-    record { calls = []; leads = refl; takes = refl; written = []; appended = appends-none x; joined = append-nil b }
+    record { calls = []; leads = refl; takes = refl; written = []; appended = Appends-nil x; joined = append-nil b }
 
 -- what is filled is written
 pub part-written : (k : Kept) (x y : Option (List ℕ)) (b : List ℕ) → Appends x y b → Part k k [] x y b []
@@ -119,7 +110,7 @@ part-call k c x =
       leads = refl;
       takes = append-nil (taken_by k c);
       written = [];
-      appended = appends-none x;
+      appended = Appends-nil x;
       joined = ap (λ (t : List ℕ). take c.at c.out ++ t) (append-nil (put_by k c)) ∙ sym (filled k c);
     }
 
@@ -134,7 +125,7 @@ part-then {k} {l} {m} {s} {t} {x} {y} {z} {a} {b} {c} p q =
       leads = kept-both p.calls q.calls k ∙ rw at q.leads;
       takes = took-both p.calls q.calls k ∙ rw (at, p.takes, q.takes);
       written = p.written ++ q.written;
-      appended = appends-then x y z p.written q.written p.appended q.appended;
+      appended = Appends-trans x y z p.written q.written p.appended q.appended;
       joined =
           ap (λ (u : List ℕ). a ++ u) puts ∙ sym (append_assoc a first second) ∙ ap (λ (u : List ℕ). u ++ second) p.joined
           ∙ append_assoc p.written b second ∙ ap (λ (u : List ℕ). p.written ++ u) q.joined ∙ sym (append_assoc p.written q.written c);
@@ -144,61 +135,38 @@ pub part-to : {k l : Kept} {s t : List ℕ} {x y : Option (List ℕ)} {a b : Lis
 part-to e p =
     record { calls = p.calls; leads = p.leads; takes = p.takes ∙ e; written = p.written; appended = p.appended; joined = p.joined }
 
--- from a place in a block on
-pub part-onward : {k l m : Kept} {x y z : Option (List ℕ)} {a b c : List ℕ} (block : List ℕ) (from to : ℕ) → from ≤ to → Part k l (take from block) x y a b
-    → Part l m (take (to - from) (drop from block)) y z b c → Part k m (take to block) x z a c
-part-onward block from to h p q =
-    let sum : from + (to - from) ≡ to = omega (arith, h) in
-    part-to (sym (take-add from (to - from) block) ∙ ap (λ (n : ℕ). take n block) sum) (part-then p q)
+-- what was taken of a block and what is left of it, once n more are taken, and at the end
+pub onward : (done left : List ℕ) (n : ℕ) {block : List ℕ} → done ++ left ≡ block → (done ++ take n left) ++ part n (length left) left ≡ block
+onward done left n e =
+    ap (λ (t : List ℕ). (done ++ take n left) ++ t) (part_left left n) ∙ append_assoc done (take n left) (drop n left)
+    ∙ ap (λ (t : List ℕ). done ++ t) (take-append-drop n left) ∙ e
+
+pub all_done : (done left : List ℕ) {block : List ℕ} → length left ≡ 0 → done ++ left ≡ block → done ≡ block
+all_done done left none e = sym (append-nil done) ∙ ap (λ (t : List ℕ). done ++ t) (sym (nil_from_length left none)) ∙ e
 
 -- once what is filled is written
 pub part-end : {k l : Kept} {s t : List ℕ} {x y z : Option (List ℕ)} {a b : List ℕ} → s ≡ t → Part k l s x y a b → Appends y z b → Part k l t x z a []
 part-end {k} {l} {s} {t} {x} {y} {z} {a} {b} e p w = part-to (append-nil s ∙ e) (part-then p (part-written l y z b w))
 
 -- what a call of `stream::take` gave back and left
-pub part-taken : (k : Kept) (block given-block out : List ℕ) (at : ℕ) {r : Taken} {out' line' state' : List ℕ} (x : Option (List ℕ))
-    → r ≡ given (called k given-block out at) → out' ≡ (called k given-block out at).out → line' ≡ (called k given-block out at).kept.memory
-    → state' ≡ (called k given-block out at).kept.words → given-block ≡ block
-    → Part k (kept_of r.held line' state') (take r.took block) x x (take at out) (take r.filled out')
-part-taken k block given-block out at x e o m w b =
-    rw (e, o, m, w, ← b) (part-call k (record { block = given-block; out = out; at = at }) x)
-
-pub from-ok : {X E P : Type 0} {r : Result X E} (x : X) → r ≡ Ok x → OnOk r P → P
-from-ok {X} {E} {P} x e p = subst (λ (r : Result X E). OnOk r P) e p
-
-pub from-written : (P : Type 0) {n : Next} (m : Next) → n ≡ m → IfWritten n P → IfWritten m P
-from-written P m e p = subst (λ (n : Next). IfWritten n P) e p
-
-pub on-ok : {X E P Q : Type 0} (r : Result X E) → (P → Q) → OnOk r P → OnOk r Q
-on-ok (Ok x) f p = f p
-on-ok (Err e) f p = tt
-
-pub keeps-nothing : (x y : Option (List ℕ)) → Keeps x y → Consumes x y []
-keeps-nothing None y h = tt
-keeps-nothing (Some xs) None h = absurd h
-keeps-nothing (Some xs) (Some ys) h = sym h
-
-pub consumes-none : (x : Option (List ℕ)) → Consumes x x []
-consumes-none None = tt
-consumes-none (Some xs) = refl
-
-pub consumes-then : (x y z : Option (List ℕ)) (a b : List ℕ) → Consumes x y a → Consumes y z b → Consumes x z (a ++ b)
-consumes-then None y z a b p q = tt
-consumes-then (Some xs) None z a b p q = absurd p
-consumes-then (Some xs) (Some ys) None a b p q = absurd q
-consumes-then (Some xs) (Some ys) (Some zs) a b p q = p ∙ ap (λ (l : List ℕ). a ++ l) q ∙ sym (append_assoc a b zs)
+pub part-taken : (k : Kept) (block out : List ℕ) (at : ℕ) {r : Taken} {out' line' state' : List ℕ} (x : Option (List ℕ))
+    → r ≡ given (called k block out at) → out' ≡ (called k block out at).out → line' ≡ (called k block out at).kept.memory
+    → state' ≡ (called k block out at).kept.words → Part k (kept_of r.held line' state') (take r.took block) x x (take at out) (take r.filled out')
+part-taken k block out at x e o m w = rw (e, o, m, w) (part-call k (record { block = block; out = out; at = at }) x)
 
 -- ---- steps
 
-pub step-none : (k : Kept) (x y w : Option (List ℕ)) → Consumes x y [] → Step k k x y w w
-step-none k x y w h = record { input = []; consumed = h; part = part-none k w [] }
+pub step-none : (k : Kept) (x w : Option (List ℕ)) → Step k k x x w w
+step-none k x w = record { input = []; consumed = Consumes-nil x; part = part-none k w [] }
 
-pub step-then : {k l m : Kept} {x y z u v w : Option (List ℕ)} → Step k l x y u v → Step l m y z v w → Step k m x z u w
-step-then {k} {l} {m} {x} {y} {z} {u} {v} {w} p q =
+-- a block is read and taken, nothing being filled before
+pub step-block : {k l m : Kept} {x y z u v w : Option (List ℕ)} {s a : List ℕ} → Step k l x y u v → Consumes y z s → a ≡ [] → Part l m s v w a []
+    → Step k m x z u w
+step-block {k} {l} {m} {x} {y} {z} {u} {v} {w} {s} {a} p read none q =
     record {
-      input = p.input ++ q.input;
-      consumed = consumes-then x y z p.input q.input p.consumed q.consumed;
-      part = part-then p.part q.part;
+      input = p.input ++ s;
+      consumed = Consumes-trans x y z p.input s p.consumed read;
+      part = part-then p.part (subst (λ (b : List ℕ). Part l m s v w b []) none q);
     }
 
 -- the end of the input: what it prints has room
@@ -231,5 +199,5 @@ transcribed m memory {k} {x} {y} {u} {v} {w} out {out'} {p} s long number room p
       printed =
           λ sized few.
           subst (λ (l : List ℕ). Appends u w l) (all ∙ whole s.input m memory t.calls sized long t.takes few)
-          (appends-then u v w t.written (take p out') t.appended appended);
+          (Appends-trans u v w t.written (take p out') t.appended appended);
     }

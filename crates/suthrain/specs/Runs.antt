@@ -1,12 +1,12 @@
 -- What a run of the program took of its input and printed. Where a reader or a writer does not say its bytes, nothing is claimed of them.
-use Rattle.std.specs.Prelude.{◌≡◌, ℕ, ◌^◌, ◌<◌, List, [], ◌∷◌, ◌++◌, length, Option, ⊤}
+use Rattle.std.specs.Prelude.{◌≡◌, ℕ, ◌^◌, ◌<◌, List, [], ◌∷◌, ◌++◌, length, take, Option}
 use Rattle.std.specs.Io.KnownBytes.{Appends, Consumes}
 use Rattle.device.specs.Layout.{state_words}
 use Rattle.stream.specs.Calls.{Call, all_taken, kept_after, put_by}
 use Rattle.stream.specs.Kept.{Kept}
 use Rattle.stream.specs.Transcript.{count, lines_in, transcript}
-use Rattle.suthrain.specs.declared.blocks.Next.{Next}
-use Rattle.suthrain.specs.declared.blocks.Next.TheVariants.{More, Ended, Unread, Unwritten}
+use Rattle.stream.specs.Kept.{kept_of}
+use Rattle.suthrain.specs.declared.memory.Memory.{Memory}
 
 -- ---- a whole run
 
@@ -43,16 +43,11 @@ pub record Step (k l : Kept) (reader reader' writer writer' : Option (List ℕ))
   pub consumed : Consumes reader reader' input
   pub part : Part k l input writer writer' [] []
 
--- ---- how it goes on behind a block
+-- ---- what is kept from block to block
 
-abbrev pub OnEnded : Next → Type 0 → Type 0
-OnEnded More P = ⊤
-OnEnded Ended P = P
-OnEnded (Unread e) P = ⊤
-OnEnded (Unwritten e) P = ⊤
+abbrev pub kept_by : Memory → Kept
+kept_by m = kept_of m.held m.line m.state
 
-abbrev pub IfWritten : Next → Type 0 → Type 0
-IfWritten More P = P
-IfWritten Ended P = P
-IfWritten (Unread e) P = P
-IfWritten (Unwritten e) P = ⊤
+-- what is filled, and not yet written
+abbrev pub filled_by : Memory → List ℕ
+filled_by m = take m.at m.out

@@ -1,0 +1,2 @@
+-- Said: what is said of a failure.
+pub mod Said

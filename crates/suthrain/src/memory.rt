@@ -1,0 +1,20 @@
+ghost use Rattle.std.specs.Prelude.{◌^◌, ◌<◌, ◌≤◌};
+ghost use Rattle.stream.specs.Kept.{line_room};
+
+use device::STATE_WORDS;
+use stream::{Held, LINE_ROOM};
+
+// How much is kept to be written at once.
+pub(crate) const OUT_ROOM: usize = 65_536;
+
+// All that is kept from block to block: what `stream` keeps, and the output, filled up to a place and not yet written.
+#[derive(Drop)]
+pub struct Memory {
+    pub state: [u32; STATE_WORDS],
+    pub line: [u8; LINE_ROOM],
+    pub held: Held,
+    pub out: [u8; OUT_ROOM],
+    pub at: usize,
+    ghost few: { held.bytes ≤ line_room },
+    ghost numbered: { held.number < 2 ^ 64 },
+}
