@@ -11,6 +11,3 @@ returns-in-Glock c = simp (c.in-Glock.is, c.bit_of.ensures, head-word c.args.sta
 pub returns-in-RimcLock : goal.returns-in-RimcLock
 unfolding state_of
 returns-in-RimcLock c = simp (c.in-RimcLock.is, c.bit_of-in-RimcLock.ensures, head-word c.args.state.now rimccr_part (lit< tt) refl)
-
-pub returns-in-Never : goal.returns-in-Never
-returns-in-Never c = simp c.in-Never.is
