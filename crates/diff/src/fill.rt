@@ -34,9 +34,14 @@ pub fn fill(guard: GuardNumber, before: &[u64], after: &[u64], numbers: &mut [u6
             used: 0,
         };
     }
-    let shape = guard.shape();
+    let Some(shape) = guard.shape() else {
+        return Filled {
+            answer: Answer::Rejected(Why::NoSuch),
+            used: 0,
+        };
+    };
     let window = shape.window;
-    if !(shape.there & tiles(before, window) & tiles(after, window)) {
+    if !(tiles(before, window) & tiles(after, window)) {
         return Filled {
             answer: Answer::Rejected(Why::NoSuch),
             used: 0,

@@ -67,13 +67,12 @@ pub fn fill(state: &[u32], guard: GuardNumber, buffer: &mut [u64]) -> Filled
             used: 0,
         };
     }
-    let shape = guard.shape();
-    if !shape.there {
+    let Some(shape) = guard.shape() else {
         return Filled {
             answer: Answer::Rejected(Why::NoSuch),
             used: 0,
         };
-    }
+    };
     let w = region_words(state, shape.place);
     let bus = shape.bus;
     let count = sweep(bus, w, shape.regions, shape.window, buffer);
