@@ -1,4 +1,5 @@
 -- What the calls of the code that makes a result give together.
+use Rattle.std.specs.Prelude.{Some, None}
 use mathlib.Core.Bool.{Bool, true, false, not, ◌&&◌}
 use mathlib.Core.List.{List}
 use mathlib.Core.Path.{◌≡◌, refl, sym, ap, ◌∙◌}
@@ -9,7 +10,8 @@ use borrow.Author.Tests.{not-true, not-false, leb-true}
 use Rattle.access.specs.declared.answer.Answer.TheVariants.{Done, Rejected}
 use Rattle.access.specs.declared.answer.Why.TheVariants.{NoSuch, WrongLength}
 use Rattle.map.specs.Fill as map
-use Rattle.risaf.specs.Guards.{is_guard, shape_of}
+use Rattle.risaf.specs.Guards.{is_guard, shape_at, shape_of}
+use Rattle.risaf.proofs.Shapes.{found}
 use Rattle.risaf.specs.declared.guards.Shape.{Shape}
 use Rattle.diff.specs.Diff.{diff_of}
 use Rattle.diff.specs.Fill.{most_diff_rows, least_diff_room, map_sized, lengths_fit, mapped, rows_between, diff_answer, diff_used, diff_numbers}
@@ -46,44 +48,53 @@ module _ (n : ℕ) (b a l : List ℕ) {sb sa : Bool} (eb : sb ≡ map_sized b) (
       let s : lengths_fit b a l ≡ false = sym is-sized ∙ not-true _ h in
       rw s (refl, (refl, refl))
 
-  module _ (h : not (leb least_diff_room (length l) && sb && sa) ≡ false) {shape : Shape} (es : shape ≡ shape_of n) {tb ta : Bool}
-      (fb : tb ≡ tiles shape.window b) (fa : ta ≡ tiles shape.window a) where
+  module _ (h : not (leb least_diff_room (length l) && sb && sa) ≡ false) where
     right-length : lengths_fit b a l ≡ true
     right-length = sym is-sized ∙ not-false _ h
 
-    is_mapped : (shape.there && tb && ta) ≡ mapped n b a
-    is_mapped = rw (fb, fa, es)
+    abbrev Refuses : Type 0
+    Refuses = (Rejected NoSuch ≡ diff_answer n b a l) × ((0 ≡ diff_used n b a l) × (l ≡ diff_numbers n b a l))
 
-    pub no-map : not (shape.there && tb && ta) ≡ true
-        → (Rejected NoSuch ≡ diff_answer n b a l) × ((0 ≡ diff_used n b a l) × (l ≡ diff_numbers n b a l))
+    no-map : mapped n b a ≡ false → Refuses
     unfolding diff_answer diff_used diff_numbers
-    no-map k =
-        let s : mapped n b a ≡ false = sym is_mapped ∙ not-true _ k in
-        rw (right-length, s) (refl, (refl, refl))
+    no-map s = rw (right-length, s) (refl, (refl, refl))
 
-    module _ (k : not (shape.there && tb && ta) ≡ false) where
-      right-maps : mapped n b a ≡ true
-      right-maps = sym is_mapped ∙ not-false _ k
+    pub no-guard : shape_at n ≡ None → Refuses
+    no-guard e = no-map (rw e refl)
 
-      -- a walk can be made
-      pub walkable : (tiles shape.window b ≡ true) × (tiles shape.window a ≡ true) × (length b ≤ map.least_room) × (length a ≤ map.least_room) × (least_diff_room ≤ length l)
-      walkable =
-          let p = lengths b a l right-length in
-          let q = maps n b a right-maps in
-          (rw es q.1, rw es q.2, p.0, p.1, p.2)
+    module _ {shape : Shape} (ef : shape_at n ≡ Some shape) {tb ta : Bool} (fb : tb ≡ tiles shape.window b) (fa : ta ≡ tiles shape.window a) where
+      es : shape ≡ shape_of n
+      es = (found n ef).0
 
-      pub few : size_diff (diff_of (map_rights b) (map_rights a) shape.window) ≤ most_diff_rows
-      few = let w = walkable in most-rows b a shape.window w.2 w.3 l w.4 w.0 w.1
+      is_mapped : (tb && ta) ≡ mapped n b a
+      is_mapped = rw (fb, fa, es, (found n ef).1)
 
-      rows : diff_of (map_rights b) (map_rights a) shape.window ≡ rows_between n b a
-      unfolding rows_between
-      rows = rw es
+      pub no-maps : not (tb && ta) ≡ true → Refuses
+      no-maps k = no-map (sym is_mapped ∙ not-true _ k)
 
-      -- what it makes
-      pub made : {count : ℕ} {l' : List ℕ} → count ≡ size_diff (diff_of (map_rights b) (map_rights a) shape.window)
-          → l' ≡ filled_diff (diff_of (map_rights b) (map_rights a) shape.window) l
-          → (Done 0 ≡ diff_answer n b a l) × ((diff_row_numbers * count ≡ diff_used n b a l) × (l' ≡ diff_numbers n b a l))
-      unfolding diff_answer diff_used diff_numbers
-      made ec el =
-          rw (right-length, right-maps)
-          (refl, (ap (λ (k : ℕ). diff_row_numbers * k) (ec ∙ ap size_diff rows), el ∙ ap (λ (rs : DiffRows). filled_diff rs l) rows))
+      module _ (k : not (tb && ta) ≡ false) where
+        right-maps : mapped n b a ≡ true
+        right-maps = sym is_mapped ∙ not-false _ k
+
+        -- a walk can be made
+        pub walkable : (tiles shape.window b ≡ true) × (tiles shape.window a ≡ true) × (length b ≤ map.least_room) × (length a ≤ map.least_room) × (least_diff_room ≤ length l)
+        walkable =
+            let p = lengths b a l right-length in
+            let q = maps n b a right-maps in
+            (rw es q.1, rw es q.2, p.0, p.1, p.2)
+
+        pub few : size_diff (diff_of (map_rights b) (map_rights a) shape.window) ≤ most_diff_rows
+        few = let w = walkable in most-rows b a shape.window w.2 w.3 l w.4 w.0 w.1
+
+        rows : diff_of (map_rights b) (map_rights a) shape.window ≡ rows_between n b a
+        unfolding rows_between
+        rows = rw es
+
+        -- what it makes
+        pub made : {count : ℕ} {l' : List ℕ} → count ≡ size_diff (diff_of (map_rights b) (map_rights a) shape.window)
+            → l' ≡ filled_diff (diff_of (map_rights b) (map_rights a) shape.window) l
+            → (Done 0 ≡ diff_answer n b a l) × ((diff_row_numbers * count ≡ diff_used n b a l) × (l' ≡ diff_numbers n b a l))
+        unfolding diff_answer diff_used diff_numbers
+        made ec el =
+            rw (right-length, right-maps)
+            (refl, (ap (λ (k : ℕ). diff_row_numbers * k) (ec ∙ ap size_diff rows), el ∙ ap (λ (rs : DiffRows). filled_diff rs l) rows))

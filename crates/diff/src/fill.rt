@@ -37,9 +37,11 @@ pub fn fill(
     if !(long & map_sized(before) & map_sized(after)) {
         return Err(Why::WrongLength);
     }
-    let shape = guard.shape();
+    let Some(shape) = guard.shape() else {
+        return Err(Why::NoSuch);
+    };
     let window = shape.window;
-    if !(shape.there & tiles(before, window) & tiles(after, window)) {
+    if !(tiles(before, window) & tiles(after, window)) {
         return Err(Why::NoSuch);
     }
     Ok(ROW_NUMBERS * walk(before, after, window, numbers))

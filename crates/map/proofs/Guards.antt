@@ -1,10 +1,8 @@
 -- Facts on the guards: their shapes, and the words of their regions.
-use mathlib.Core.Bool.{Bool, true, false, not}
 use mathlib.Core.List.{List}
-use mathlib.Core.Path.{◌≡◌, sym, ◌∙◌}
+use mathlib.Core.Path.{◌≡◌}
 use Prim.Native.Nat.{ℕ, ◌^◌, ◌≤◌}
 use lib.ListN.{length}
-use borrow.Author.Tests.{not-false}
 use Rattle.regions.specs.Words.{most_regions}
 use Rattle.risaf.specs.Contents.{regions_words}
 use Rattle.risaf.specs.Guards.{shape_of}
@@ -12,10 +10,6 @@ use Rattle.risaf.proofs.Shapes.{regions-most, window-most, place-lt}
 use Rattle.device.specs.Layout.{state_words, state_of, regions_in}
 use Rattle.device.specs.State.{guard_of}
 use Rattle.device.proofs.GuardLayout.{regions-read, regions-length}
-
--- the code's test that there is such a guard
-pub passed : {a b : Bool} → b ≡ a → not b ≡ false → a ≡ true
-passed {a} {b} e h = sym e ∙ not-false b h
 
 pub small : (n : ℕ) → ((shape_of n).regions ≤ most_regions) × ((shape_of n).window ≤ 2 ^ 32)
 small n = (regions-most n, window-most n)

@@ -62,10 +62,9 @@ pub fn fill(state: &[u32], guard: GuardNumber, buffer: &mut [u64]) -> Result<usi
     if state.len() != STATE_WORDS || buffer.len() < LEAST_ROOM {
         return Err(Why::WrongLength);
     }
-    let shape = guard.shape();
-    if !shape.there {
+    let Some(shape) = guard.shape() else {
         return Err(Why::NoSuch);
-    }
+    };
     let w = region_words(state, shape.place);
     let count = sweep(shape.bus, w, shape.regions, shape.window, buffer);
     Ok(ROW_NUMBERS * count)

@@ -68,8 +68,7 @@ fn print_number(
     n: u32,
 ) -> io::Result<()> {
     let guard = GuardNumber(n);
-    let shape = guard.shape();
-    if !shape.there {
+    if guard.shape().is_none() {
         return Ok(());
     }
     print_sheet(output, out, old, new, guard)

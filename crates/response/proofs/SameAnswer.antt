@@ -1,4 +1,5 @@
 -- Two events that print the same line were answered with the same number and the same value.
+use Rattle.std.specs.Prelude.{Option, Some, None}
 use mathlib.Core.Bool.{Bool, true, false, ◌&&◌, ◌||◌, cond}
 use mathlib.Core.List.{List}
 use mathlib.Core.Path.{◌≡◌}
@@ -19,8 +20,10 @@ use Rattle.access.specs.declared.kind.Kind.{Kind}
 use Rattle.access.specs.declared.request.Request.{Request}
 use Rattle.rifsc.specs.Port.{read_of as rifsc-read_of, answer_of as rifsc-answer_of, stepped as rifsc-stepped}
 use Rattle.iac.specs.Port.{read_of as iac-read_of, answer_of as iac-answer_of, stepped as iac-stepped}
-use Rattle.risaf.specs.Port.{read_of, answer_of, accessed, stepped}
-use Rattle.risaf.specs.Guards.{shape_of}
+use Rattle.risaf.specs.Port.{read_of, answer_of, accessed, stepped, stepped_at}
+use Rattle.risaf.specs.Guards.{is_guard, shape_of}
+use Rattle.risaf.specs.Rows.{row_at}
+use Rattle.risaf.specs.declared.rows.Row.{Row}
 use Rattle.risaf.specs.Memory.{memory_answer, memory_stepped}
 use Rattle.regions.specs.Verdict.{rule_number, refused_number}
 use Rattle.regions.specs.declared.verdict.Reason.TheVariants.{Security, Privilege, Compartment}
@@ -90,10 +93,14 @@ unfolding united
 united-few x y = word_lt 32 (λ i. bit x i || bit y i)
 
 register-few : (b : Block) (q : Request) (s : State) → value_of (register_step b q s).answer < 2 ^ 32
-unfolding register_step rifsc-stepped rifsc-answer_of rifsc-read_of iac-stepped iac-answer_of iac-read_of stepped accessed answer_of read_of
+unfolding register_step rifsc-stepped rifsc-answer_of rifsc-read_of iac-stepped iac-answer_of iac-read_of stepped stepped_at accessed answer_of read_of
 register-few Rifsc q s = answered-few _ _ 0 (gives-few q _ (united-few _ _)) (lit< tt)
 register-few Iac q s = answered-few _ _ 0 (gives-few q _ (united-few _ _)) (lit< tt)
-register-few (Risaf n) q s = answered-few _ _ 0 (gives-few q _ (masked-few _ _)) (lit< tt)
+register-few (Risaf n) q s = go (row_at (shape_of n.0).regions q.offset)
+  where
+    go : (r : Option Row) → value_of (stepped_at (is_guard n.0) (shape_of n.0) r (guard_of s n.0) q).answer < 2 ^ 32
+    go None = answered-few _ 0 0 (lit< tt) (lit< tt)
+    go (Some row) = answered-few _ _ 0 (gives-few q _ (masked-few _ _)) (lit< tt)
 
 memory-few : (there : Bool) (n o width : ℕ) (k : Kind) (s : State) → value_of (memory_step there n o width k s).answer < 2 ^ 32
 unfolding memory_step memory_stepped memory_answer decided

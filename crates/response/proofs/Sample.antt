@@ -10,7 +10,7 @@ use Rattle.access.specs.Checks.{answered_with, reached_with}
 use Rattle.rifsc.specs.Contents.{reset as rifsc-reset}
 use Rattle.iac.specs.Contents.{reset as iac-reset}
 use Rattle.risaf.specs.Contents.{reset}
-use Rattle.risaf.specs.Guards.{shape_in, shape_of}
+use Rattle.risaf.specs.Guards.{shape_in, shape_at, shape_of}
 use Rattle.risaf.specs.Memory.{memory_checks, memory_answer, memory_stepped}
 use Rattle.regions.specs.Rights.{rights_word}
 use Rattle.regions.specs.Rules.{tests, decided}
@@ -76,19 +76,19 @@ started m h = rw (eq-eqb (length m) state_words h)
 -- ---- the access is granted, and leaves the memory as it was
 
 first : (text_of (Some (AnEvent access)) 1 start ≡ text1) × (left_by (Some (AnEvent access)) start ≡ start)
-unfolding text_of left_by answer_text answer_line digits_of width_in width_of decimal_text applied_answer applied_state layout joined parts_of state_of reset_state rifsc-reset iac-reset reset step memory_step memory_stepped memory_answer memory_checks answered_with reached_with shape_in shape_of guard_of with_guard decided tests
+unfolding text_of left_by answer_text answer_line digits_of width_in width_of decimal_text applied_answer applied_state layout joined parts_of state_of reset_state rifsc-reset iac-reset reset step memory_step memory_stepped memory_answer memory_checks answered_with reached_with shape_in shape_at shape_of guard_of with_guard decided tests
 first = (refl, refl)
 
 -- ---- the map's text is its sheet, whose rows a sweep computes (rows-swept)
 
 asked : text_of (Some (Map (record { 0 = 2 }))) 2 start ≡ sheet 2 (rows_of (state_of start) 2)
-unfolding text_of map_text layout joined reset_state rifsc-reset iac-reset reset shape_in shape_of
+unfolding text_of map_text layout joined reset_state rifsc-reset iac-reset reset shape_in shape_at shape_of
 asked = refl
 
 swept : sheet 2
     (swept_map (rights_of (state_of start) 2) (bounds_of (pairs_of (guard_of (state_of start) 2).regions (shape_of 2).regions)) (shape_of 2).window)
     ≡ text2
-unfolding sheet span_lines label_line span_line digits_of width_in width_of decimal_text size swept_map sweep_from next_of bounds_of join pairs_of rights_of rights_word decided tests layout joined parts_of state_of reset_state rifsc-reset iac-reset reset shape_in shape_of guard_of
+unfolding sheet span_lines label_line span_line digits_of width_in width_of decimal_text size swept_map sweep_from next_of bounds_of join pairs_of rights_of rights_word decided tests layout joined parts_of state_of reset_state rifsc-reset iac-reset reset shape_in shape_at shape_of guard_of
 swept = refl
 
 second : text_of (Some (Map (record { 0 = 2 }))) 2 start ≡ text2

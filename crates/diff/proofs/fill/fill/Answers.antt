@@ -1,8 +1,8 @@
 -- `diff::fill::fill` meets its contract: at each return the tests that led there say how it went.
 use mathlib.Core.Bool.{not}
-use mathlib.Core.Path.{ap}
+use mathlib.Core.Path.{ap, sym, ◌∙◌}
 use native.Mathlib.Omega.{arith}
-use Rattle.diff.proofs.Made.{wrong-length, no-map, walkable, few, made}
+use Rattle.diff.proofs.Made.{wrong-length, no-guard, no-maps, walkable, few, made}
 use Rattle.diff.proofs.fill.fill.Goals as goal
 
 pub returns-then-not-long-map_sized : goal.returns-then-not-long-map_sized
@@ -12,12 +12,19 @@ returns-then-not-long-map_sized c =
     c.map_sized.ensures c.map_sized-2.ensures (ap not c.if-not-long-map_sized.true) in
     record { answer_value = all.0; used_value = all.1.0; numbers_after = all.1.1 }
 
-pub returns-then-not-shape-tiles : goal.returns-then-not-shape-tiles
-returns-then-not-shape-tiles c =
+pub returns-in_default : goal.returns-in_default
+returns-in_default c =
     let a = c.args in
-    let all = no-map a.guard.0 a.before.now a.after.now a.numbers.now
+    let all = no-guard a.guard.0 a.before.now a.after.now a.numbers.now
+    c.map_sized.ensures c.map_sized-2.ensures (ap not c.if-not-long-map_sized.false) (sym c.shape.ensures ∙ c.in_default.is) in
+    record { answer_value = all.0; used_value = all.1.0; numbers_after = all.1.1 }
+
+pub returns-then-not-tiles : goal.returns-then-not-tiles
+returns-then-not-tiles c =
+    let a = c.args in
+    let all = no-maps a.guard.0 a.before.now a.after.now a.numbers.now
     c.map_sized.ensures c.map_sized-2.ensures (ap not c.if-not-long-map_sized.false)
-    c.shape-shape.ensures c.tiles.ensures c.tiles-2.ensures (ap not c.if-not-shape-tiles.true) in
+    (sym c.shape.ensures ∙ c.in-Some.is) c.tiles.ensures c.tiles-2.ensures (ap not c.if-not-tiles.true) in
     record { answer_value = all.0; used_value = all.1.0; numbers_after = all.1.1 }
 
 pub walk-requires : goal.walk-requires
@@ -25,7 +32,7 @@ walk-requires c =
     let a = c.args in
     walkable a.guard.0 a.before.now a.after.now a.numbers.now
     c.map_sized.ensures c.map_sized-2.ensures (ap not c.if-not-long-map_sized.false)
-    c.shape-shape.ensures c.tiles.ensures c.tiles-2.ensures (ap not c.if-not-shape-tiles.false)
+    (sym c.shape.ensures ∙ c.in-Some.is) c.tiles.ensures c.tiles-2.ensures (ap not c.if-not-tiles.false)
 
 pub overflow_mul-result : goal.overflow_mul-result
 overflow_mul-result c =
@@ -35,7 +42,7 @@ overflow_mul-result c =
       c.walk.ensures.value,
       few a.guard.0 a.before.now a.after.now a.numbers.now
           c.map_sized.ensures c.map_sized-2.ensures (ap not c.if-not-long-map_sized.false)
-          c.shape-shape.ensures c.tiles.ensures c.tiles-2.ensures (ap not c.if-not-shape-tiles.false),
+          (sym c.shape.ensures ∙ c.in-Some.is) c.tiles.ensures c.tiles-2.ensures (ap not c.if-not-tiles.false),
     )
 
 pub returns : goal.returns
@@ -43,6 +50,6 @@ returns c =
     let a = c.args in
     let all = made a.guard.0 a.before.now a.after.now a.numbers.now
     c.map_sized.ensures c.map_sized-2.ensures (ap not c.if-not-long-map_sized.false)
-    c.shape-shape.ensures c.tiles.ensures c.tiles-2.ensures (ap not c.if-not-shape-tiles.false)
+    (sym c.shape.ensures ∙ c.in-Some.is) c.tiles.ensures c.tiles-2.ensures (ap not c.if-not-tiles.false)
     c.walk.ensures.value c.walk.ensures.lent_after in
     record { answer_value = all.0; used_value = all.1.0; numbers_after = all.1.1 }

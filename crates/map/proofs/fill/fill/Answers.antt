@@ -1,10 +1,10 @@
 -- `map::fill::fill` meets its contract: at each return the tests that led there say how it went.
-use mathlib.Core.Path.{refl, sym, ap, ◌∙◌}
-use Rattle.risaf.specs.declared.guards.Shape.{Shape}
+use mathlib.Core.Path.{refl, sym, ◌∙◌}
+use Rattle.risaf.proofs.Shapes.{found, missed}
 use native.Mathlib.Omega.{arith}
-use borrow.Author.Tests.{eq-eqb, ne_eqb, le-leb, lt-leb, not-true}
+use borrow.Author.Tests.{eq-eqb, ne_eqb, le-leb, lt-leb}
 use Rattle.map.specs.Fill.{fill_answer, fill_used, fill_numbers}
-use Rattle.map.proofs.Guards.{passed, small, guard-regions}
+use Rattle.map.proofs.Guards.{small, guard-regions}
 use Rattle.map.proofs.Made.{sweepable, made}
 use Rattle.map.proofs.Steady.{size-most}
 use Rattle.map.proofs.fill.fill.Goals as goal
@@ -21,42 +21,41 @@ returns-then-state-ne-STATE_WORDS c =
           (record { answer_value = refl; used_value = refl; buffer_after = refl })
     ]
 
-pub returns-then-not-shape : goal.returns-then-not-shape
+pub returns-in_default : goal.returns-in_default
 unfolding fill_answer fill_used fill_numbers
-returns-then-not-shape c =
-    let s = c.shape-shape in
+returns-in_default c =
     simp (
       eq-eqb _ _ c.if-state-ne-STATE_WORDS.false,
       le-leb _ _ c.if-buffer-lt-LEAST_ROOM.false,
-      sym (ap (λ (x : Shape). x.there) s.ensures) ∙ not-true s.result.there c.if-not-shape.true,
+      missed c.args.guard.0 (sym c.shape.ensures ∙ c.in_default.is),
     )
     (record { answer_value = refl; used_value = refl; buffer_after = refl })
 
 pub sweep-count-requires : goal.sweep-count-requires
 sweep-count-requires c =
     let a = c.args in
-    let s = c.shape-shape.ensures in
+    let f = found c.args.guard.0 (sym c.shape.ensures ∙ c.in-Some.is) in
     sweepable a.state.now a.guard.0 a.buffer.now c.if-state-ne-STATE_WORDS.false c.if-buffer-lt-LEAST_ROOM.false
-    (passed (ap (λ (x : Shape). x.there) c.shape-shape.ensures) c.if-not-shape.false) s
-    (c.region_words-w.ensures ∙ rw c.shape-shape.ensures (guard-regions a.state.now a.guard.0 c.if-state-ne-STATE_WORDS.false))
+    f.1 f.0
+    (c.region_words-w.ensures ∙ rw f.0 (guard-regions a.state.now a.guard.0 c.if-state-ne-STATE_WORDS.false))
 
 pub overflow_mul-result : goal.overflow_mul-result
 overflow_mul-result c =
-    let s = c.shape-shape in
+    let s = c.in-Some.shape in
     let n = c.args.guard.0 in
     omega (
       arith,
       c.sweep-count.ensures.value,
-      size-most s.result.bus c.region_words-w.result.now s.result.regions s.result.window (rw s.ensures (small n).0),
+      size-most s.bus c.region_words-w.result.now s.regions s.window (rw (found n (sym c.shape.ensures ∙ c.in-Some.is)).0 (small n).0),
     )
 
 pub returns : goal.returns
 returns c =
     let a = c.args in
-    let s = c.shape-shape.ensures in
+    let f = found c.args.guard.0 (sym c.shape.ensures ∙ c.in-Some.is) in
     let u = c.sweep-count in
     let all = made a.state.now a.guard.0 a.buffer.now c.if-state-ne-STATE_WORDS.false c.if-buffer-lt-LEAST_ROOM.false
-    (passed (ap (λ (x : Shape). x.there) c.shape-shape.ensures) c.if-not-shape.false) s
-    (c.region_words-w.ensures ∙ rw c.shape-shape.ensures (guard-regions a.state.now a.guard.0 c.if-state-ne-STATE_WORDS.false))
+    f.1 f.0
+    (c.region_words-w.ensures ∙ rw f.0 (guard-regions a.state.now a.guard.0 c.if-state-ne-STATE_WORDS.false))
     u.ensures.value u.ensures.lent_after in
     record { answer_value = all.0; used_value = all.1.0; buffer_after = all.1.1 }
