@@ -4,6 +4,7 @@ use mathlib.Core.Path.{◌≡◌, refl, ap, ◌∙◌}
 use Prim.Native.Nat.{ℕ, zero, suc, ◌+◌, ◌-◌, ◌*◌, ◌/◌, ◌%◌, ◌^◌, ◌≤◌, ◌<◌}
 use native.Mathlib.Omega.{arith}
 use lib.ListN.{length}
+use Rattle.std.specs.Int.{w64, to_le_bytes}
 use lib.Bits.{bit_and, and_high, and_le_l, and_le_r, and_mask}
 use Rattle.print.specs.Bytes.{bytes}
 use Rattle.print.specs.Print.{character, digits_of}
@@ -107,22 +108,9 @@ bytes-are (d ∷ ds) =
     let high : (w * 256 + character_of d) / 256 ≡ w = omega (arith, few d) in
     rw (low, high) (ap (λ (l : List ℕ). character_of d ∷ l) (bytes-are ds))
 
--- all eight, each taken from the word itself
-abbrev pub eight : ℕ → List ℕ
-eight w =
-    w % 256
-    ∷ w / 0x100 % 256
-    ∷ w / 0x1_0000 % 256
-    ∷ w / 0x100_0000 % 256
-    ∷ w / 0x1_0000_0000 % 256
-    ∷ w / 0x100_0000_0000 % 256
-    ∷ w / 0x1_0000_0000_0000 % 256
-    ∷ w / 0x100_0000_0000_0000 % 256
-    ∷ []
-
-eight_are : (w : ℕ) → eight w ≡ bytes_of 8 w
+le-bytes : (w : ℕ) → to_le_bytes w64 w ≡ bytes_of 8 w
 unfolding bytes_of
-eight_are w =
+le-bytes w =
     let a : w / 0x100 / 256 ≡ w / 0x1_0000 = omega arith in
     let b : w / 0x1_0000 / 256 ≡ w / 0x100_0000 = omega arith in
     let c : w / 0x100_0000 / 256 ≡ w / 0x1_0000_0000 = omega arith in
@@ -196,9 +184,9 @@ module _ (n : ℕ) where
       let sixth : n / 0x1_0000 / 16 / 16 ≡ n / 0x100_0000 = omega arith in
       rw (second, fourth, sixth)
 
-  pub hex-digits : eight word ≡ digits_of 16 8 n
+  pub hex-digits : to_le_bytes w64 word ≡ digits_of 16 8 n
   unfolding bytes_of pairs
-  hex-digits = eight_are word ∙ rw word_of (bytes-are (pairs xs)) ∙ digits-all
+  hex-digits = le-bytes word ∙ rw word_of (bytes-are (pairs xs)) ∙ digits-all
 
 -- sixteen digits are twice eight
 pub sixteen-digits : (n : ℕ) → digits_of 16 16 n ≡ digits_of 16 8 (n / 0x1_0000_0000) ++ digits_of 16 8 n

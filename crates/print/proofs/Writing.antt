@@ -48,13 +48,6 @@ join {out} {out'} {out''} {at} {p} {q} {x} {y} a b =
           ∙ rw (a.bytes, a.next) (over-over out at x y (omega (arith, a.next, a.room)));
     }
 
--- bytes copied one by one, all of them
-pub copied : (out out' bytes : List ℕ) (at i : ℕ) → i ≤ length bytes → length bytes ≤ i → at + length bytes ≤ length out
-    → out' ≡ paste out at bytes i → Wrote out at bytes out' (at + i)
-copied out out' bytes at i h h' room e =
-    let all : i ≡ length bytes = omega arith in
-    record { next = omega arith; room = omega arith; bytes = e ∙ rw all (over-paste out at bytes) }
-
 -- one byte
 pub one : (out : List ℕ) (at b : ℕ) → at < length out → Wrote out at (b ∷ []) (set out at b) (at + 1)
 one out at b h =

@@ -29,14 +29,5 @@ pub(crate) fn hex_digits(n: u64) -> [u8; 8]
     let digits = (bytes - low) / 16 + low * 256;
     let letters = ((digits + SIXES) & SIXTEENS) / 16;
     let word = digits + ZEROS + LETTERS * letters;
-    [
-        (word % 256) as u8,
-        (word / 0x100 % 256) as u8,
-        (word / 0x1_0000 % 256) as u8,
-        (word / 0x100_0000 % 256) as u8,
-        (word / 0x1_0000_0000 % 256) as u8,
-        (word / 0x100_0000_0000 % 256) as u8,
-        (word / 0x1_0000_0000_0000 % 256) as u8,
-        (word / 0x100_0000_0000_0000 % 256) as u8,
-    ]
+    word.to_le_bytes()
 }

@@ -22,12 +22,9 @@ fn put(out: &mut [u8], at: usize, bytes: &[u8]) -> usize
     requires { at + length bytes.now ≤ length out.old }
     ensures { Wrote out.old at bytes.now out.new result }
 {
-    let mut i = 0;
-    while i < bytes.len() {
-        out[at + i] = bytes[i];
-        i += 1;
-    }
-    at + i
+    let end = at + bytes.len();
+    out[at..end].copy_from_slice(bytes);
+    end
 }
 
 // Writes the last `count` decimal digits of n, and the byte that ends them, from `at` on. The place after them.
@@ -36,11 +33,9 @@ fn put_digits(out: &mut [u8], at: usize, n: u64, count: usize, end: u8) -> usize
     ensures { Wrote out.old at (digits_of 10 count n ++ (end ∷ [])) out.new result }
 {
     let mut m = n;
-    let mut k = count;
-    while 0 < k {
-        k -= 1;
+    for k in (0..count).rev() {
         out[at + k] = b'0' + (m % 10) as u8;
-        m = m / 10;
+        m /= 10;
     }
     out[at + count] = end;
     at + count + 1
@@ -84,7 +79,7 @@ fn width(n: u64) -> usize
     let mut m = n;
     let mut k = 1;
     while 10 <= m {
-        m = m / 10;
+        m /= 10;
         k += 1;
     }
     k
@@ -96,10 +91,7 @@ fn print_labelled(out: &mut [u8], at: usize, label: &[u8], n: u64) -> usize
     ensures bytes { out.new ≡ bytes_with out.old at (label_line label.now n) }
 {
     let count = width(n);
-    if out.len() < at {
-        return at;
-    }
-    if out.len() - at < label.len() + count + 1 {
+    if out.len().saturating_sub(at) < label.len() + count + 1 {
         return at;
     }
     let a = put(out, at, label);
@@ -115,10 +107,7 @@ pub fn print_answer(out: &mut [u8], at: usize, number: u64, value: u32) -> usize
     ensures bytes { out.new ≡ bytes_with out.old at (answer_line number value) }
 {
     let count = width(number);
-    if out.len() < at {
-        return at;
-    }
-    if out.len() - at < count + 14 {
+    if out.len().saturating_sub(at) < count + 14 {
         return at;
     }
     let a = put(out, at, b"ans\t");
@@ -135,10 +124,7 @@ pub fn print_span(out: &mut [u8], at: usize, start: u64, end: u64, rights: u64) 
     ensures next { result ≡ place_with out.old at (span_line start end rights) }
     ensures bytes { out.new ≡ bytes_with out.old at (span_line start end rights) }
 {
-    if out.len() < SPAN_LENGTH {
-        return at;
-    }
-    if out.len() - SPAN_LENGTH < at {
+    if out.len().saturating_sub(at) < SPAN_LENGTH {
         return at;
     }
     let a = put(out, at, b"span\t");
@@ -161,10 +147,7 @@ pub fn print_diff(
     ensures bytes { out.new ≡ bytes_with out.old at (diff_line start end old new count) }
 {
     let digits = width(count);
-    if out.len() < at {
-        return at;
-    }
-    if out.len() - at < digits + 58 {
+    if out.len().saturating_sub(at) < digits + 58 {
         return at;
     }
     let a = put(out, at, b"diff\t");

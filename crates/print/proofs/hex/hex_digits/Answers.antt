@@ -1,4 +1,5 @@
 -- `print::hex::hex_digits` meets its contract: nothing passes 64 bits, and the bytes are the digits.
+use mathlib.Core.Path.{◌∙◌}
 use native.Mathlib.Omega.{arith}
 use Rattle.print.proofs.HexDigits.{hex-digits, digits-most, letters-most, low-most, low_part}
 use Rattle.print.proofs.hex.hex_digits.Goals as goal
@@ -25,4 +26,4 @@ pub overflow_add-word-2 : goal.overflow_add-word-2
 overflow_add-word-2 c = record { fits = omega (arith, digits-most c.args.n, letters-most c.args.n) }
 
 pub returns : goal.returns
-returns c = hex-digits c.args.n
+returns c = c.to_le_bytes.ensures ∙ hex-digits c.args.n

@@ -6,14 +6,8 @@ use Rattle.print.proofs.Digits.{answer-length, digits-length}
 use Rattle.print.proofs.Writing.{join, part-ends, refused, whole}
 use Rattle.print.proofs.print.print_answer.Goals as goal
 
-pub returns-then-out-at : goal.returns-then-out-at
-returns-then-out-at c =
-    let a = c.args in
-    let all = refused a.out.now a.at (answer_line a.number a.value) (omega arith) in
-    record { next = all.0; bytes = all.1 }
-
-pub returns-then-out-at-2 : goal.returns-then-out-at-2
-returns-then-out-at-2 c =
+pub returns-then-saturating_sub-count : goal.returns-then-saturating_sub-count
+returns-then-saturating_sub-count c =
     let a = c.args in
     let all = refused a.out.now a.at (answer_line a.number a.value) (omega (arith, answer-length a.number a.value)) in
     record { next = all.0; bytes = all.1 }

@@ -5,14 +5,8 @@ use Rattle.print.proofs.Digits.{label-length}
 use Rattle.print.proofs.Writing.{join, refused, whole}
 use Rattle.print.proofs.print.print_labelled.Goals as goal
 
-pub returns-then-out-at : goal.returns-then-out-at
-returns-then-out-at c =
-    let a = c.args in
-    let all = refused a.out.now a.at (label_line a.label.now a.n) (omega arith) in
-    record { next = all.0; bytes = all.1 }
-
-pub returns-then-out-at-2 : goal.returns-then-out-at-2
-returns-then-out-at-2 c =
+pub returns-then-saturating_sub-label : goal.returns-then-saturating_sub-label
+returns-then-saturating_sub-label c =
     let a = c.args in
     let all = refused a.out.now a.at (label_line a.label.now a.n) (omega (arith, label-length a.label.now a.n)) in
     record { next = all.0; bytes = all.1 }

@@ -6,15 +6,8 @@ use Rattle.print.proofs.Digits.{digits-length, span-length}
 use Rattle.print.proofs.Writing.{join, part-ends, refused, whole}
 use Rattle.print.proofs.print.print_span.Goals as goal
 
-pub returns-then-out-lt-SPAN_LENGTH : goal.returns-then-out-lt-SPAN_LENGTH
-returns-then-out-lt-SPAN_LENGTH c =
-    let a = c.args in
-    let all = refused a.out.now a.at (span_line a.start a.end a.rights)
-    (omega (arith, span-length a.start a.end a.rights)) in
-    record { next = all.0; bytes = all.1 }
-
-pub returns-then-out-at : goal.returns-then-out-at
-returns-then-out-at c =
+pub returns-then-saturating_sub-lt-SPAN_LENGTH : goal.returns-then-saturating_sub-lt-SPAN_LENGTH
+returns-then-saturating_sub-lt-SPAN_LENGTH c =
     let a = c.args in
     let all = refused a.out.now a.at (span_line a.start a.end a.rights)
     (omega (arith, span-length a.start a.end a.rights)) in
@@ -27,7 +20,7 @@ put_hex-c-requires c =
 pub put_rights-requires : goal.put_rights-requires
 put_rights-requires c =
     let w = join (join c.put-a.ensures c.put_hex-b.ensures) c.put_hex-c.ensures in
-    omega (arith, simp (length-append, digits-length) at (part-ends w), c.if-out-at.false, c.if-out-lt-SPAN_LENGTH.false)
+    omega (arith, simp (length-append, digits-length) at (part-ends w))
 
 pub returns : goal.returns
 unfolding span_line

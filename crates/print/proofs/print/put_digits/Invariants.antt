@@ -4,6 +4,3 @@ use Rattle.print.proofs.print.put_digits.Given as goal
 
 abbrev pub invariant-loop-k : goal.invariant-loop-k
 invariant-loop-k l = Left 10 l.initial.out l.at l.n l.count l.out l.m l.k
-
-abbrev pub decreases-loop-k : goal.decreases-loop-k
-decreases-loop-k l = l.k
