@@ -2,11 +2,10 @@
 // says.
 #![tactic(auto)]
 
-mod failure;
 mod report;
 mod run;
 
-use failure::fail;
+use failures::say;
 use std::env::FillError;
 use std::io::Write;
 use std::rt::Env;
@@ -24,14 +23,13 @@ fn main(rt: HostRuntime) {
         );
         return;
     }
-    let mut old = [0u32; device::STATE_WORDS];
-    let mut new = [0u32; device::STATE_WORDS];
-    let old_ran = run::run(&rt, &mut errors, 1, &mut old);
-    let new_ran = run::run(&rt, &mut errors, 2, &mut new);
-    if old_ran & new_ran {
+    let old = run::run(&rt, &mut errors, 1);
+    let new = run::run(&rt, &mut errors, 2);
+    if let (Some(old), Some(new)) = (old, new) {
         let mut output = rt.stdout();
         if let Err(error) = report::print(&mut output, &old, &new) {
-            fail(&mut errors, b"standard output", &error);
+            // Where standard error cannot be written, there is nowhere to say so.
+            let _ = say(&mut errors, b"standard output", &error);
         }
     }
 }
