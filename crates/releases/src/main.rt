@@ -15,6 +15,8 @@ fn has_argument(rt: &impl Env, i: usize) -> bool {
     !matches!(rt.arg(i, &mut []), Err(FillError::NotPresent))
 }
 
+// It gives no error: the exit status is 0 on every input (docs/DECISIONS.md). Where standard error cannot be written, there is nowhere to say
+// so.
 fn main(rt: HostRuntime) {
     let mut errors = rt.stderr();
     if !has_argument(&rt, 2) || has_argument(&rt, 3) {
@@ -28,7 +30,6 @@ fn main(rt: HostRuntime) {
     if let (Some(old), Some(new)) = (old, new) {
         let mut output = rt.stdout();
         if let Err(error) = report::print(&mut output, &old, &new) {
-            // Where standard error cannot be written, there is nowhere to say so.
             let _ = say(&mut errors, b"standard output", &error);
         }
     }
