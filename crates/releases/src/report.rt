@@ -1,5 +1,5 @@
 // What differs between the maps of each guard of two states, printed.
-use crate::failure::front;
+use diff::fill::ROW_NUMBERS;
 use diff::used_part;
 use risaf::{GUARD_NUMBERS, GuardNumber};
 use script::{print_diff, print_end, print_guard};
@@ -9,23 +9,13 @@ use std::io::Write;
 // Room for a sheet.
 const SHEET_ROOM: usize = 65_536;
 
-// The lines of the rows of a result, from `at` on. The place after them.
-fn put_rows(out: &mut [u8], at: usize, rows: &[u64]) -> usize {
-    let mut p = at;
-    let mut i = 0;
-    while diff::fill::ROW_NUMBERS <= rows.len() - i {
-        p = print_diff(
-            out,
-            p,
-            rows[i],
-            rows[i + 1],
-            rows[i + 2],
-            rows[i + 3],
-            rows[i + 4],
-        );
-        i += diff::fill::ROW_NUMBERS;
+// The lines of rows, from `at` on. The place after them.
+fn put_rows(out: &mut [u8], at: usize, rows: &[[u64; ROW_NUMBERS]]) -> usize {
+    let mut place = at;
+    for [start, end, old, new, count] in rows {
+        place = print_diff(out, place, *start, *end, *old, *new, *count);
     }
-    p
+    place
 }
 
 // The sheet of a guard: its `guard` line, what differs, and `end` with the count of rows. How many bytes it has.
@@ -41,53 +31,21 @@ fn put_guard(out: &mut [u8], old: &[u32], new: &[u32], guard: GuardNumber) -> us
         used_part(&after, made_after),
         &mut numbers,
     );
-    let rows = used_part(&numbers, differs);
+    let (rows, _) = used_part(&numbers, differs).as_chunks();
     let a = print_guard(out, 0, guard);
     let b = put_rows(out, a, rows);
-    print_end(out, b, (rows.len() / diff::fill::ROW_NUMBERS) as u64)
-}
-
-// Prints the sheet of a guard.
-fn print_sheet(
-    output: &mut impl Write,
-    out: &mut [u8],
-    old: &[u32],
-    new: &[u32],
-    guard: GuardNumber,
-) -> io::Result<()> {
-    let at = put_guard(out, old, new, guard);
-    output.write_all(front(out, at))
-}
-
-// Prints the sheet of guard n, if there is one.
-fn print_number(
-    output: &mut impl Write,
-    out: &mut [u8],
-    old: &[u32],
-    new: &[u32],
-    n: u32,
-) -> io::Result<()> {
-    let guard = GuardNumber(n);
-    if guard.shape().is_none() {
-        return Ok(());
-    }
-    print_sheet(output, out, old, new, guard)
+    print_end(out, b, rows.len() as u64)
 }
 
 // Prints the sheets of all guards, in rising number.
-fn print_sheets(
-    output: &mut impl Write,
-    out: &mut [u8],
-    old: &[u32],
-    new: &[u32],
-) -> io::Result<()> {
-    for n in 0..GUARD_NUMBERS {
-        print_number(output, out, old, new, n)?;
-    }
-    Ok(())
-}
-
 pub(crate) fn print(output: &mut impl Write, old: &[u32], new: &[u32]) -> io::Result<()> {
     let mut out = [0u8; SHEET_ROOM];
-    print_sheets(output, &mut out, old, new)
+    for n in 0..GUARD_NUMBERS {
+        let guard = GuardNumber(n);
+        if guard.shape().is_some() {
+            let at = put_guard(&mut out, old, new, guard);
+            output.write_all(&out[..at.min(SHEET_ROOM)])?;
+        }
+    }
+    Ok(())
 }

@@ -131,7 +131,7 @@ part-then {k} {l} {m} {s} {t} {x} {y} {z} {a} {b} {c} p q =
           ∙ append_assoc p.written b second ∙ ap (λ (u : List ℕ). p.written ++ u) q.joined ∙ sym (append_assoc p.written q.written c);
     }
 
-pub part-to : {k l : Kept} {s t : List ℕ} {x y : Option (List ℕ)} {a b : List ℕ} → s ≡ t → Part k l s x y a b → Part k l t x y a b
+part-to : {k l : Kept} {s t : List ℕ} {x y : Option (List ℕ)} {a b : List ℕ} → s ≡ t → Part k l s x y a b → Part k l t x y a b
 part-to e p =
     record { calls = p.calls; leads = p.leads; takes = p.takes ∙ e; written = p.written; appended = p.appended; joined = p.joined }
 

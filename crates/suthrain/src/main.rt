@@ -65,6 +65,8 @@ fn run<R: Read, W: Write>(
     Ok(whole)
 }
 
+// It gives no error: the exit status is 0 on every input (docs/DECISIONS.md). Where standard error cannot be written, there is nowhere to say
+// so.
 fn main(rt: HostRuntime) {
     let mut errors = rt.stderr();
     let Err(FillError::NotPresent) = rt.arg(1, &mut []) else {
@@ -86,7 +88,6 @@ fn main(rt: HostRuntime) {
     let mut input = rt.stdin();
     let mut output = rt.stdout();
     if let Err(error) = run(&mut memory, &mut input, &mut output, &mut errors) {
-        // Where standard error cannot be written, there is nowhere to say so.
         let _ = say(&mut errors, b"standard output", &error);
     }
 }
