@@ -1,13 +1,34 @@
 ghost use Rattle.std.specs.Prelude.{◌≡◌, ◌+◌, ◌≤◌, length};
+ghost use Rattle.device.specs.Applied.{applied_answer, applied_state};
 ghost use Rattle.script.specs.Command.{command_of};
 ghost use Rattle.print.specs.Parts.{Wrote};
-ghost use Rattle.response.specs.Response.{bytes_after, most, left_by, place_after, state_after, text_of};
+ghost use Rattle.print.specs.Print.{bad_line};
+ghost use Rattle.response.specs.Response.{answer_text, bytes_after, most, left_by, place_after, state_after, text_of};
 
 use crate::sheet::{put_answer, put_map};
+use device::Event;
 use script::{Command, print_bad, read_line};
 
 // The most bytes that a line prints: the sheet of a map of the most rows.
 pub const RESPONSE_MOST: usize = 2800;
+
+// An event, applied and its answer printed.
+fn obey_event(event: Event, state: &mut [u32], out: &mut [u8], at: usize) -> usize
+    requires { at + most ≤ length out.old }
+    ensures wrote { Wrote out.old at (answer_text (applied_answer event state.old)) out.new result }
+    ensures state_after { state.new ≡ applied_state event state.old }
+{
+    let answer = device::apply(state, event);
+    put_answer(out, at, answer)
+}
+
+// A line that is bad.
+fn put_bad(out: &mut [u8], at: usize, number: u64) -> usize
+    requires { at + most ≤ length out.old }
+    ensures { Wrote out.old at (bad_line number) out.new result }
+{
+    print_bad(out, at, number)
+}
 
 // A line obeyed and printed, where there is room for whatever it prints.
 fn obey(line: &[u8], number: u64, state: &mut [u32], out: &mut [u8], at: usize) -> usize
@@ -16,12 +37,9 @@ fn obey(line: &[u8], number: u64, state: &mut [u32], out: &mut [u8], at: usize) 
     ensures state_after { state.new ≡ left_by (command_of line.now) state.old }
 {
     match read_line(line) {
-        Some(Command::Event(event)) => {
-            let answer = device::apply(state, event);
-            put_answer(out, at, answer)
-        }
+        Some(Command::Event(event)) => obey_event(event, state, out, at),
         Some(Command::Map(guard)) => put_map(out, at, state, guard),
-        None => print_bad(out, at, number),
+        None => put_bad(out, at, number),
     }
 }
 
