@@ -19,9 +19,11 @@ use Rattle.rifsc.specs.Masters.{is_master, attributes_of, carried}
 use Rattle.rifsc.specs.Port as rifsc
 use Rattle.rifsc.specs.Registers as rifsc-registers
 use Rattle.rifsc.specs.declared.contents.Rifsc.{Rifsc as RifscWords}
+use Rattle.rifsc.specs.declared.registers.Register.{Register as RifscRegister}
 use Rattle.iac.specs.Port as iac
 use Rattle.iac.specs.Registers as iac-registers
 use Rattle.iac.specs.declared.contents.Iac.{Iac as IacWords}
+use Rattle.iac.specs.declared.registers.Register.{Register as IacRegister}
 use Rattle.risaf.specs.Contents.{iasr_at, guard_words, with_word}
 use Rattle.risaf.specs.Guards.{is_guard, shape_of}
 use Rattle.risaf.specs.Memory.{faulted, memory_stepped}
@@ -37,6 +39,7 @@ use Rattle.device.specs.declared.event.Block.{Block}
 use Rattle.device.specs.declared.event.Block.TheVariants.{Rifsc, Iac, Risaf}
 use Rattle.device.specs.declared.event.Event.{Event}
 use Rattle.device.specs.declared.event.Event.TheVariants.{Reset, Register, Peripheral, Memory, Master}
+use Rattle.device.proofs.BlockSteps.{controller_at, flags_at}
 use Rattle.device.proofs.GuardSteps.{guard-same}
 
 -- ---- what an answer leaves
@@ -58,16 +61,16 @@ left-part (Rejected why) b p e r done flagged = refl
 
 -- ---- what an event leaves where it is done
 
-abbrev rifsc_written : Request → RifscWords → RifscWords
-rifsc_written q r =
-    let reg = rifsc-registers.register_at q.offset in
+-- where the offset is no register's there is none
+abbrev pub rifsc_written : Option RifscRegister → Request → RifscWords → RifscWords
+rifsc_written None q r = r
+rifsc_written (Some reg) q r =
     let row = rifsc-registers.row_of reg in
     rifsc.written r reg row (rifsc-contents.seen r reg row.lock row.index) q
 
-abbrev iac_written : Request → IacWords → IacWords
-iac_written q i =
-    let reg = iac-registers.register_at q.offset in
-    iac.written i reg q
+abbrev pub iac_written : Option IacRegister → Request → IacWords → IacWords
+iac_written None q i = i
+iac_written (Some reg) q i = iac.written i reg q
 
 abbrev port_written : ℕ → Row → Port → Request → Port
 port_written granule row p q = cond q.write (with_port_word p (word_written granule row p q.value q.secure)) p
@@ -85,8 +88,8 @@ written_at granule None q g = g
 written_at granule (Some row) q g = guard_written granule row q g
 
 unfoldable pub register_effect : Block → Request → State → State
-register_effect Rifsc q s = with_rifsc s (rifsc_written q s.rifsc)
-register_effect Iac q s = with_iac s (iac_written q s.iac)
+register_effect Rifsc q s = with_rifsc s (rifsc_written (rifsc-registers.register_at q.offset) q s.rifsc)
+register_effect Iac q s = with_iac s (iac_written (iac-registers.register_at q.offset) q s.iac)
 register_effect (Risaf n) q s = with_guard s n.0 (written_at (shape_of n.0).granule (row_at (shape_of n.0).regions q.offset) q (guard_of s n.0))
 
 unfoldable pub effect : Event → State → State
@@ -121,13 +124,23 @@ refused (Master a) s = memory_refused a.guard.0 a.offset (carried (attributes_of
 
 register-leaves : (b : Block) (q : Request) (s : State)
     → (register_step b q s).next ≡ left (register_step b q s).answer s (register_effect b q s) (register_refused b s)
-unfolding register_step register_effect register_refused rifsc.stepped iac.stepped risaf.stepped risaf.stepped_at risaf.accessed risaf.checks_none answered_with reached_with port_in
-register-leaves Rifsc q s =
-    left-part (register_step Rifsc q s).answer s s.rifsc (rifsc_written q s.rifsc) s.rifsc (with_rifsc s)
-    (λ r. flagged rifsc_flag (with_rifsc s r))
-register-leaves Iac q s =
-    left-part (register_step Iac q s).answer s s.iac (iac_written q s.iac) s.iac (with_iac s)
-    (λ i. flagged iac_flag (with_iac s i))
+unfolding register_step register_effect register_refused rifsc.stepped_at iac.stepped_at risaf.stepped risaf.stepped_at risaf.accessed risaf.checks_none answered_with reached_with port_in
+register-leaves Rifsc q s = at (rifsc-registers.register_at q.offset)
+  where
+    at : (o : Option RifscRegister)
+        → (controller_at o q s).next ≡ left (controller_at o q s).answer s (with_rifsc s (rifsc_written o q s.rifsc)) (flagged rifsc_flag s)
+    at None = refl
+    at (Some reg) =
+        left-part (controller_at (Some reg) q s).answer s s.rifsc (rifsc_written (Some reg) q s.rifsc) s.rifsc (with_rifsc s)
+        (λ r. flagged rifsc_flag (with_rifsc s r))
+register-leaves Iac q s = at (iac-registers.register_at q.offset)
+  where
+    at : (o : Option IacRegister)
+        → (flags_at o q s).next ≡ left (flags_at o q s).answer s (with_iac s (iac_written o q s.iac)) (flagged iac_flag s)
+    at None = refl
+    at (Some reg) =
+        left-part (flags_at (Some reg) q s).answer s s.iac (iac_written (Some reg) q s.iac) s.iac (with_iac s)
+        (λ i. flagged iac_flag (with_iac s i))
 register-leaves (Risaf n) q s = go (row_at (shape_of n.0).regions q.offset)
   where
     g : Guard

@@ -16,7 +16,9 @@ use Rattle.device.specs.declared.event.Block.{Block}
 use Rattle.device.specs.declared.event.Block.TheVariants.{Rifsc, Iac, Risaf}
 use Rattle.device.specs.declared.event.Event.{Event}
 use Rattle.device.specs.declared.event.Event.TheVariants.{Reset, Register, Peripheral, Memory, Master}
-use Rattle.device.proofs.Effects.{register_effect, effect, register_refused, refused, step_by}
+use Rattle.iac.specs.declared.registers.Register.{Register as IacRegister}
+use Rattle.std.specs.Prelude.{Option, Some, None}
+use Rattle.device.proofs.Effects.{iac_written, register_effect, effect, register_refused, refused, step_by}
 
 -- ---- an event leaves the IAC as it was, or as it is held, or as reset makes it: P of all that it may leave is P of what it leaves
 
@@ -27,7 +29,11 @@ module _ (P : IacWords → Type 0) (s : State) (same : P s.iac) (kept : (t : Iac
   register-effect : (b : Block) (q : Request) → Of (register_effect b q s)
   unfolding register_effect with_guard
   register-effect Rifsc q = same
-  register-effect Iac q = written-by P q s.iac (iac-registers.register_at q.offset) same kept
+  register-effect Iac q = at (iac-registers.register_at q.offset)
+    where
+      at : (o : Option IacRegister) → P (iac_written o q s.iac)
+      at None = same
+      at (Some reg) = written-by P q s.iac reg same kept
   register-effect (Risaf n) q = same
 
   event-effect : (e : Event) → (e ≡ Reset → Of reset_state) → Of (effect e s)

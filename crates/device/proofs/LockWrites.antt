@@ -40,7 +40,8 @@ use Rattle.risaf.specs.declared.registers.SubField.TheVariants.{SubCfgr, SubStar
 use Rattle.risaf.specs.declared.registers.Register.{Register as GuardRegister}
 use Rattle.risaf.specs.declared.registers.Register.TheVariants.{OfHead, OfBase, OfSub}
 use Rattle.risaf.specs.declared.rows.Row.{Row}
-use Rattle.device.proofs.Effects.{guard_written}
+use Rattle.std.specs.Prelude.{Option, Some, None}
+use Rattle.device.proofs.Effects.{guard_written, rifsc_written}
 
 -- ---- one bit
 
@@ -128,12 +129,11 @@ rifsc-stored r in-rifsc.Rimccr value secure =
     record { cr = λ h. h; rimccr = taken-keeps r in-rifsc.Rimccr value secure 0 (lit< tt) (λ e. e); rcfglockr = λ x i l h. h }
 rifsc-stored r (in-rifsc.Attr m) value secure = rifsc-still r
 rifsc-stored r (in-rifsc.Ppsr x) value secure = rifsc-still r
-rifsc-stored r in-rifsc.Unknown value secure = rifsc-still r
 
-pub rifsc-written : (r : Rifsc) (reg : RifscRegister) (q : Request)
-    → RifscHeld r (rifsc.written r reg (rifsc-registers.row_of reg) (rifsc-contents.seen r reg (rifsc-registers.row_of reg).lock (rifsc-registers.row_of reg).index) q)
+pub rifsc-written : (r : Rifsc) (o : Option RifscRegister) (q : Request) → RifscHeld r (rifsc_written o q r)
 unfolding rifsc.written
-rifsc-written r reg q =
+rifsc-written r None q = rifsc-still r
+rifsc-written r (Some reg) q =
     cond-by (RifscHeld r) q.write (rifsc-contents.with_stored r reg (word_of r reg q.value q.secure)) r
     (λ w. rifsc-stored r reg q.value q.secure) (rifsc-still r)
 

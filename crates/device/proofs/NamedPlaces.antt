@@ -128,7 +128,6 @@ rifsc-has (in-rifsc.Rcfglockr x) placed = ppsr-within x
 rifsc-has in-rifsc.Rimccr placed = λ j l h. h
 rifsc-has (in-rifsc.Attr m) placed = within-is _ _ (firsts_at masters m (λ i. (rifsc.row_of (in-rifsc.Attr i)).named) 0 placed)
 rifsc-has (in-rifsc.Ppsr x) placed = λ j l h. h
-rifsc-has in-rifsc.Unknown placed = λ j l h. h
 
 iac-words : (reg : IacRegister) → Within (iac.row_of reg).named (iac-contents.stored named_state.iac reg)
 unfolding named_state iac-contents.stored iac.row_of
@@ -136,7 +135,6 @@ iac-words (in-iac.Ier x) = iisr-within x
 iac-words (in-iac.Isr x) = iisr-within x
 iac-words (in-iac.Icr x) = iisr-within x
 iac-words (in-iac.Iisr x) = λ j l h. h
-iac-words in-iac.Unknown = λ j l h. h
 
 pub iac-has : iac-named.Has named_state.iac
 unfolding named_state

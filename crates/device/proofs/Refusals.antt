@@ -5,6 +5,7 @@ use mathlib.Core.List.{List, map}
 use mathlib.Core.Path.{◌≡◌, refl, ap, ◌∙◌}
 use Prim.Native.Nat.{ℕ, ◌≤◌}
 use native.Mathlib.Omega.{arith}
+use Rattle.std.specs.Prelude.{Option, Some, None}
 use lib.Seq.{map-set_same}
 use Rattle.words.specs.Bit.{bit}
 use Rattle.access.specs.Answer.{number_of, left}
@@ -16,10 +17,14 @@ use Rattle.access.specs.declared.kind.Kind.{Kind}
 use Rattle.access.specs.declared.request.Request.{Request}
 use Rattle.rifsc.specs.Masters.{attributes_of, carried}
 use Rattle.rifsc.specs.Port as rifsc
+use Rattle.rifsc.specs.Registers as rifsc-registers
+use Rattle.rifsc.specs.declared.registers.Register.{Register as RifscRegister}
 use Rattle.iac.specs.Contents.{with_word as with_iac_word}
 use Rattle.iac.specs.Flags.{is_flag, flag_set, raise}
 use Rattle.iac.specs.Held.{held}
 use Rattle.iac.specs.Port as iac
+use Rattle.iac.specs.Registers as iac-registers
+use Rattle.iac.specs.declared.registers.Register.{Register as IacRegister}
 use Rattle.iac.specs.declared.contents.Iac.{Iac as IacWords}
 use Rattle.risaf.specs.Contents.{with_word}
 use Rattle.risaf.specs.Guards.{shape_of}
@@ -28,7 +33,7 @@ use Rattle.risaf.specs.Rows.{of_head, row_at}
 use Rattle.risaf.specs.declared.rows.Row.{Row}
 use Rattle.risaf.specs.declared.contents.Guard.{Guard}
 use Rattle.device.specs.Locks.{guard_settings, settings, configures}
-use Rattle.device.specs.State.{State, guard_of, with_guard, flagged}
+use Rattle.device.specs.State.{State, guard_of, with_rifsc, with_iac, with_guard, flagged}
 use Rattle.device.specs.Step.{rifsc_flag, iac_flag, step}
 use Rattle.device.specs.declared.event.Block.{Block}
 use Rattle.device.specs.declared.event.Block.TheVariants.{Rifsc, Iac, Risaf}
@@ -36,7 +41,7 @@ use Rattle.device.specs.declared.event.Event.{Event}
 use Rattle.device.specs.declared.event.Event.TheVariants.{Reset, Register, Peripheral, Memory, Master}
 use Rattle.access.proofs.Answers.{why-number}
 use Rattle.device.specs.Refusals.{memory_fault, register_left, memory_left, refused_state}
-use Rattle.device.proofs.Effects.{written_at, register_effect, effect, register_refused, memory_refused, refused, step-leaves, step_by, with_guard-same}
+use Rattle.device.proofs.Effects.{rifsc_written, iac_written, written_at, register_effect, effect, register_refused, memory_refused, refused, step-leaves, step_by, with_guard-same}
 
 -- ---- any number but 0 and 1 leaves the state as it was
 
@@ -125,8 +130,16 @@ refused-exactly e s h = rw (step-leaves e s) (by (step e s).answer h)
 
 read-effect : (b : Block) (q : Request) (s : State) → q.write ≡ false → register_effect b q s ≡ s
 unfolding register_effect rifsc.written iac.written
-read-effect Rifsc q s h = rw (h, rifsc.written)
-read-effect Iac q s h = rw (h, iac.written)
+read-effect Rifsc q s h = at (rifsc-registers.register_at q.offset)
+  where
+    at : (o : Option RifscRegister) → with_rifsc s (rifsc_written o q s.rifsc) ≡ s
+    at None = refl
+    at (Some reg) = rw (h, rifsc.written)
+read-effect Iac q s h = at (iac-registers.register_at q.offset)
+  where
+    at : (o : Option IacRegister) → with_iac s (iac_written o q s.iac) ≡ s
+    at None = refl
+    at (Some reg) = rw (h, iac.written)
 read-effect (Risaf n) q s h = go (row_at (shape_of n.0).regions q.offset)
   where
     go : (r : Option Row) → with_guard s n.0 (written_at (shape_of n.0).granule r q (guard_of s n.0)) ≡ s

@@ -25,7 +25,6 @@ pub(crate) fn stored(state: &[u32; STATE_WORDS], reg: Register) -> u32
         Register::Rimccr => state[RIMC_CR],
         Register::Attr(m) => word_in(state, ATTR, MASTERS, m),
         Register::Ppsr(_) => 0,
-        Register::Unknown => 0,
     }
 }
 
@@ -63,7 +62,6 @@ pub(crate) fn store_register(state: &mut [u32; STATE_WORDS], reg: Register, v: u
         Register::Rimccr => state[RIMC_CR] = v,
         Register::Attr(m) => store_in(state, ATTR, MASTERS, m, v),
         Register::Ppsr(_) => {}
-        Register::Unknown => {}
     }
 }
 

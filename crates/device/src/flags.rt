@@ -23,7 +23,6 @@ pub(crate) fn load_word(state: &[u32; STATE_WORDS], reg: Register) -> u32
         Register::Isr(x) => word_in(state, ISR, BIT_WORDS, x),
         Register::Icr(x) => word_in(state, ISR, BIT_WORDS, x),
         Register::Iisr(_) => 0,
-        Register::Unknown => 0,
     }
 }
 
@@ -73,7 +72,6 @@ pub(crate) fn rewrite(state: &mut [u32; STATE_WORDS], reg: Register, named: u32,
             keep(state, named, ier, old, new);
         }
         Register::Iisr(_) => {}
-        Register::Unknown => {}
     }
 }
 

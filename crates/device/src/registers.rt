@@ -1,4 +1,6 @@
-ghost use Rattle.std.specs.Prelude.{false, ◌≡◌};
+ghost use Rattle.std.specs.Prelude.{false, ◌≡◌, Some};
+ghost use Rattle.iac.specs.Registers as iac_registers;
+ghost use Rattle.rifsc.specs.Registers as rifsc_registers;
 ghost use Rattle.device.specs.Layout.{state_of};
 ghost use Rattle.device.specs.Step.{register_step};
 ghost use Rattle.device.specs.declared.event.Block.TheVariants.{Iac, Rifsc, Risaf};
@@ -9,6 +11,7 @@ use crate::guards::{load_words, store_word};
 use crate::layout::STATE_WORDS;
 use access::{Accessed, Answer, Flag, Request, Why};
 use iac::Seen;
+use rifsc::Register;
 use risaf::{CAEF, GuardNumber, IASR, Port};
 
 // The flags of a refused access to the controller's registers, and to those of the IAC.
@@ -17,12 +20,11 @@ const RIFSC_FLAG: Flag = Flag(158);
 const IAC_FLAG: Flag = Flag(138);
 
 // A read of the controller's registers, which leaves the state.
-fn read_rifsc(state: &[u32; STATE_WORDS], q: Request) -> Answer
-    requires { q.write ≡ false }
+fn read_rifsc(state: &[u32; STATE_WORDS], reg: Register, q: Request) -> Answer
+    requires { (q.write ≡ false) × (rifsc_registers.register_at q.offset ≡ Some reg) }
     ensures answer { result ≡ (register_step Rifsc q (state_of state.now)).answer }
     ensures next { state_of state.now ≡ (register_step Rifsc q (state_of state.now)).next }
 {
-    let reg = rifsc::register_at(q.offset);
     reg.row().read(stored(state, reg), q.offset)
 }
 
@@ -34,10 +36,12 @@ pub(crate) fn access_rifsc(state: &mut [u32; STATE_WORDS], q: Request) -> Answer
     if q.offset % 4 != 0 {
         return Answer::Rejected(Why::Misaligned);
     }
+    let Some(reg) = rifsc::register_at(q.offset) else {
+        return Answer::Rejected(Why::NoRegister);
+    };
     if !q.write {
-        return read_rifsc(state, q);
+        return read_rifsc(state, reg, q);
     }
-    let reg = rifsc::register_at(q.offset);
     let row = reg.row();
     let Accessed { answer, next } = load_seen(state, reg, row).access(reg, row, q);
     match answer {
@@ -49,12 +53,11 @@ pub(crate) fn access_rifsc(state: &mut [u32; STATE_WORDS], q: Request) -> Answer
 }
 
 // A read of the registers of the IAC: refused, it raises a flag.
-fn read_iac(state: &mut [u32; STATE_WORDS], q: Request) -> Answer
-    requires { q.write ≡ false }
+fn read_iac(state: &mut [u32; STATE_WORDS], reg: iac::Register, q: Request) -> Answer
+    requires { (q.write ≡ false) × (iac_registers.register_at q.offset ≡ Some reg) }
     ensures answer { result ≡ (register_step Iac q (state_of state.old)).answer }
     ensures next { state_of state.new ≡ (register_step Iac q (state_of state.old)).next }
 {
-    let reg = iac::register_at(q.offset);
     let answer = reg.row().read(load_word(state, reg), q);
     if let Answer::Refused(_) = answer {
         raise(state, IAC_FLAG);
@@ -70,10 +73,12 @@ pub(crate) fn access_iac(state: &mut [u32; STATE_WORDS], q: Request) -> Answer
     if q.offset % 4 != 0 {
         return Answer::Rejected(Why::Misaligned);
     }
+    let Some(reg) = iac::register_at(q.offset) else {
+        return Answer::Rejected(Why::NoRegister);
+    };
     if !q.write {
-        return read_iac(state, q);
+        return read_iac(state, reg, q);
     }
-    let reg = iac::register_at(q.offset);
     let row = reg.row();
     let seen = Seen {
         word: load_word(state, reg),

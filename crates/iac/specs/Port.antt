@@ -64,16 +64,12 @@ accessed reg row v q =
 unfoldable pub written : Iac → Register → Request → Iac
 written s reg q = cond q.write (held s (with_word s reg (word_written reg (stored s reg) q.value))) s
 
-pub record Stepped : Type 0 where
-  pub next : Iac
-  pub answer : Answer
-
 -- where the offset is no register's, and where it is a register's
-unfoldable pub stepped_at : Option Register → Iac → Request → Stepped
+unfoldable pub stepped_at : Option Register → Iac → Request → Accessed Iac
 stepped_at None s q = record { next = s; answer = no_register q.offset }
 stepped_at (Some reg) s q =
     let a = answer_of (row_of reg) (stored s reg) q in
     record { next = left a s (written s reg q) s; answer = a }
 
-abbrev pub stepped : Iac → Request → Stepped
+abbrev pub stepped : Iac → Request → Accessed Iac
 stepped s q = stepped_at (register_at q.offset) s q

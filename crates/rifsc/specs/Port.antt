@@ -88,12 +88,8 @@ accessed reg row v q =
 unfoldable pub written : Rifsc → Register → Row → Seen → Request → Rifsc
 written r reg row v q = cond q.write (with_stored r reg (word_written reg row v q.value q.secure)) r
 
-pub record Stepped : Type 0 where
-  pub next : Rifsc
-  pub answer : Answer
-
 -- where the offset is no register's, and where it is a register's
-unfoldable pub stepped_at : Option Register → Rifsc → Request → Stepped
+unfoldable pub stepped_at : Option Register → Rifsc → Request → Accessed Rifsc
 stepped_at None r q = record { next = r; answer = no_register q.offset }
 stepped_at (Some reg) r q =
     let row = row_of reg in
@@ -101,5 +97,5 @@ stepped_at (Some reg) r q =
     let a = answer_of row v.locked v.word q in
     record { next = left a r (written r reg row v q) r; answer = a }
 
-abbrev pub stepped : Rifsc → Request → Stepped
+abbrev pub stepped : Rifsc → Request → Accessed Rifsc
 stepped r q = stepped_at (register_at q.offset) r q

@@ -33,7 +33,3 @@ returns-in-Attr c =
 pub returns-in-Ppsr : goal.returns-in-Ppsr
 unfolding with_stored
 returns-in-Ppsr c = rw c.in-Ppsr.is refl
-
-pub returns-in-Unknown : goal.returns-in-Unknown
-unfolding with_stored
-returns-in-Unknown c = rw c.in-Unknown.is refl

@@ -32,7 +32,3 @@ returns-in-Attr c = simp (c.in-Attr.is, c.word_in-in-Attr.ensures, head-part c.a
 pub returns-in-Ppsr : goal.returns-in-Ppsr
 unfolding stored state_of
 returns-in-Ppsr c = simp c.in-Ppsr.is
-
-pub returns-in-Unknown : goal.returns-in-Unknown
-unfolding stored state_of
-returns-in-Unknown c = simp c.in-Unknown.is

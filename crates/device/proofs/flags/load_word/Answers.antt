@@ -19,7 +19,3 @@ returns-in-Icr c = simp (c.in-Icr.is, c.word_in-in-Icr.ensures, head-part c.args
 pub returns-in-Iisr : goal.returns-in-Iisr
 unfolding stored
 returns-in-Iisr c = simp c.in-Iisr.is
-
-pub returns-in-Unknown : goal.returns-in-Unknown
-unfolding stored
-returns-in-Unknown c = simp c.in-Unknown.is

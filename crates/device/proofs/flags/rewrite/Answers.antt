@@ -52,9 +52,3 @@ unfolding with_word
 returns-in-Iisr c =
     let s = state_of c.args.state.now in
     rw c.in-Iisr.is (ap (with_iac s) (sym (at_none s.iac)))
-
-pub returns-in-Unknown : goal.returns-in-Unknown
-unfolding with_word
-returns-in-Unknown c =
-    let s = state_of c.args.state.now in
-    rw c.in-Unknown.is (ap (with_iac s) (sym (at_none s.iac)))

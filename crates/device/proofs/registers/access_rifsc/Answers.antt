@@ -1,7 +1,8 @@
 -- `device::registers::access_rifsc` meets its contract, by how the access ends.
+use mathlib.Core.Path.{sym, ◌∙◌}
 use borrow.Author.Tests.{not-true, not-false}
 use Rattle.device.specs.Layout.{state_of}
-use Rattle.device.proofs.BlockSteps.{controller-misaligned, controller-written, controller-refused, controller-rejected}
+use Rattle.device.proofs.BlockSteps.{controller-misaligned, controller-none, controller-written, controller-refused, controller-rejected}
 use Rattle.device.proofs.registers.access_rifsc.Goals as goal
 
 pub returns-then-q-ne0 : goal.returns-then-q-ne0
@@ -10,9 +11,15 @@ returns-then-q-ne0 c =
     let all = controller-misaligned (state_of a.state.now) a.q c.if-q-ne0.true in
     record { answer = all.0; next = all.1 }
 
+pub returns-in_default : goal.returns-in_default
+returns-in_default c =
+    let a = c.args in
+    let all = controller-none (state_of a.state.now) a.q c.if-q-ne0.false (sym c.register_at.ensures ∙ c.in_default.is) in
+    record { answer = all.0; next = all.1 }
+
 pub read_rifsc-requires : goal.read_rifsc-requires
 read_rifsc-requires c =
-    not-true c.args.q.write c.if-not-q.true
+    (not-true c.args.q.write c.if-not-q.true, sym c.register_at.ensures ∙ c.in-Some.is)
 
 pub returns-then-not-q : goal.returns-then-not-q
 returns-then-not-q c =
@@ -21,20 +28,20 @@ returns-then-not-q c =
 pub returns-in-Done : goal.returns-in-Done
 returns-in-Done c =
     let a = c.args in
-    let all = controller-written (state_of a.state.now) a.q c.register_at-reg.ensures c.row-row.ensures c.load_seen.ensures c.access-answer.ensures
+    let all = controller-written (state_of a.state.now) a.q (sym c.register_at.ensures ∙ c.in-Some.is) c.row-row.ensures c.load_seen.ensures c.access-answer.ensures
     c.in-Done.is (not-false a.q.write c.if-not-q.false) c.store_register.ensures in
     record { answer = all.0; next = all.1 }
 
 pub returns-in-Refused : goal.returns-in-Refused
 returns-in-Refused c =
     let a = c.args in
-    let all = controller-refused (state_of a.state.now) a.q c.register_at-reg.ensures c.row-row.ensures c.load_seen.ensures c.access-answer.ensures
+    let all = controller-refused (state_of a.state.now) a.q (sym c.register_at.ensures ∙ c.in-Some.is) c.row-row.ensures c.load_seen.ensures c.access-answer.ensures
     c.in-Refused.is c.raise.ensures in
     record { answer = all.0; next = all.1 }
 
 pub returns-in-Rejected : goal.returns-in-Rejected
 returns-in-Rejected c =
     let a = c.args in
-    let all = controller-rejected (state_of a.state.now) a.q c.register_at-reg.ensures c.row-row.ensures c.load_seen.ensures c.access-answer.ensures
+    let all = controller-rejected (state_of a.state.now) a.q (sym c.register_at.ensures ∙ c.in-Some.is) c.row-row.ensures c.load_seen.ensures c.access-answer.ensures
     c.in-Rejected.is in
     record { answer = all.0; next = all.1 }
