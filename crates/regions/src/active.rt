@@ -10,7 +10,7 @@ use crate::places::{ENABLE, END, MOST_REGIONS, REGION_WORDS, START};
 // The base regions that a sweep has to look at from an offset on, up to `to`: no other covers there.
 #[derive(Clone, Copy)]
 pub struct Active {
-    // From this one up to the other, which is not one of them.
+    // From this one up to the other, which is not one of them: a Range would not be Copy, and the map's loop keeps these by value.
     pub low: usize,
     pub high: usize,
     pub to: u64,
