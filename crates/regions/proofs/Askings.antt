@@ -165,17 +165,11 @@ module _ (w : List ℕ) (n o : ℕ) (k : Kind) (h : k.cid.0 ≤ 7) where
           rw f (ap (λ t. record { rule = Subregion; reason = reason_of t }) (subs-tests p adds w n o k h (λ e. e) _ _ (may k.write (bit m.opens den) ∙ opened)))
       by false f = rw f (ap (λ t. record { rule = Base; reason = reason_of t }) (bases-tests p adds w n o k h))
 
-  -- in the code's calls, the direction by itself
-  governed-as : (d : Bool) → k.write ≡ d → covered w n o ≡ true
-      → Some (verdict_of (by_asked (den_of d) m) (record { cid = k.cid; write = d; privileged = k.privileged; secure = k.secure }))
-      ≡ governed w n o k
-  governed-as d e f = rw (← e) (rw f (ap Some (asked_is f)))
-
   -- where the search found one
-  pub found_as : (d : Bool) → k.write ≡ d → {r : ℕ} → Next w o n r
-      → Some (verdict_of (by_asked (den_of d) m) (record { cid = k.cid; write = d; privileged = k.privileged; secure = k.secure }))
-      ≡ governed w n o k
-  found_as d e {r} next = governed-as d e (some-covered w o n r next.high next.found)
+  pub found_as : {r : ℕ} → Next w o n r → Some (verdict_of (by_asked den m) k) ≡ governed w n o k
+  found_as {r} next =
+      let e = some-covered w o n r next.high next.found in
+      rw e (ap Some (asked_is e))
 
   pub governed-none : covered w n o ≡ false → None ≡ governed w n o k
   governed-none e = rw e refl

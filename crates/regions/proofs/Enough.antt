@@ -1,10 +1,11 @@
 -- Where the lent words are enough, the code decides as the rules do.
-use mathlib.Core.Bool.{Bool, true, ◌&&◌, cond}
+use mathlib.Core.Bool.{Bool, true, false, ◌&&◌, cond, true≢false}
 use mathlib.Core.List.{List}
-use mathlib.Core.Path.{◌≡◌, ap, ap₂}
+use mathlib.Core.Path.{◌≡◌, refl, sym, ap, ap₂}
 use Prim.Native.Nat.{ℕ, ◌*◌, ◌≤◌}
 use lib.ListN.{length}
-use borrow.Author.Tests.{le-leb}
+use lib.Dec.{leb}
+use borrow.Author.Tests.{le-leb, leb-true}
 use Rattle.std.specs.Prelude.{Some}
 use Rattle.access.specs.declared.bus.Bus.{Bus}
 use Rattle.access.specs.declared.kind.Kind.{Kind}
@@ -15,6 +16,15 @@ use Rattle.regions.specs.Rights.{rights_word}
 use Rattle.regions.specs.Rules.{decided}
 use Rattle.regions.specs.declared.verdict.Reason.TheVariants.{Compartment}
 use Rattle.regions.specs.declared.verdict.Rule.TheVariants.{Default}
+
+-- by the code's test
+pub from-enough : (w : List ℕ) (n : ℕ) → enough w n ≡ true → (n ≤ 11) × (12 * n ≤ length w)
+from-enough w n e = go (leb n 11) refl (leb (12 * n) (length w)) refl e
+  where
+    go : (a : Bool) → leb n 11 ≡ a → (b : Bool) → leb (12 * n) (length w) ≡ b → (a && b) ≡ true → (n ≤ 11) × (12 * n ≤ length w)
+    go true e true f h = (leb-true n 11 e, leb-true (12 * n) (length w) f)
+    go true e false f h = absurd (true≢false (sym h))
+    go false e b f h = absurd (true≢false (sym h))
 
 module _ (bus : Bus) (w : List ℕ) (n o : ℕ) (h : n ≤ 11) (l : 12 * n ≤ length w) where
   is-enough : enough w n ≡ true

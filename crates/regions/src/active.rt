@@ -3,13 +3,14 @@ ghost use Rattle.regions.specs.Active.{active_in, with_region};
 ghost use Rattle.regions.specs.Words.{base, region_words};
 
 use crate::ahead::start_ahead;
+use crate::lent::enough;
 use crate::masks::none_enabled;
 use crate::places::{ENABLE, END, MOST_REGIONS, REGION_WORDS, START};
 
 // The base regions that a sweep has to look at from an offset on, up to `to`: no other covers there.
 #[derive(Clone, Copy)]
 pub struct Active {
-    // From this one up to the other, which is not one of them.
+    // From this one up to the other, which is not one of them: a Range would not be Copy, and the map's loop keeps these by value.
     pub low: usize,
     pub high: usize,
     pub to: u64,
@@ -50,10 +51,7 @@ pub fn active_at(w: &[u32], n: usize, o: u32, to: u64) -> Active
         high: 0,
         to,
     };
-    if MOST_REGIONS < n {
-        return a;
-    }
-    if w.len() < REGION_WORDS * n {
+    if !enough(w, n) {
         return a;
     }
     // Where none is enabled, which is told without a loop, none has to be looked at.

@@ -5,6 +5,7 @@
 mod active;
 mod admits;
 mod ahead;
+mod lent;
 mod masks;
 pub mod places;
 mod rights;

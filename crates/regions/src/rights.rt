@@ -4,8 +4,8 @@ ghost use Rattle.regions.specs.Lent.{rights_in};
 ghost use Rattle.regions.specs.Admits.{as_heard, by_masks, byte_at, byte_of, rights_from};
 
 use crate::admits::{Admits, admits_security, all_as_zero, by_masks, open_to};
+use crate::lent::enough;
 use crate::masks::Masks;
-use crate::places::{MOST_REGIONS, REGION_WORDS};
 use crate::scan::scanned;
 use access::Bus;
 
@@ -68,10 +68,7 @@ pub fn stretch_at(bus: Bus, w: &[u32], n: usize, o: u32, to: u64) -> Stretch
     ensures to_value { result.to ≡ ahead_in w.now n o to }
 {
     let nothing = Stretch { rights: 0, to };
-    if MOST_REGIONS < n {
-        return nothing;
-    }
-    if w.len() < REGION_WORDS * n {
+    if !enough(w, n) {
         return nothing;
     }
     let s = scanned(w, n, o, to);

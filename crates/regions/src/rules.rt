@@ -1,16 +1,17 @@
-ghost use Rattle.std.specs.Prelude.{◌≡◌, ◌≤◌, length};
+ghost use Rattle.std.specs.Prelude.{◌≡◌, ◌≤◌, cond, length};
 ghost use Rattle.access.specs.Kind.{debugger};
 ghost use Rattle.regions.specs.Lent.{decided_in};
 ghost use Rattle.regions.specs.Rules.{is_default, reason_of, tests0};
 ghost use Rattle.regions.specs.Admits.{by_asked, governed, tests_of, verdict_of};
 ghost use Rattle.regions.specs.Masks.{Passed, masks, served_by, serving};
-ghost use Rattle.regions.specs.Words.{base, most_regions, wren_bit};
+ghost use Rattle.regions.specs.Words.{base, most_regions, rden_bit, wren_bit};
 
 use crate::admits::{Admits, admits_security, by_asked, defaults, open_to};
+use crate::lent::enough;
 use crate::masks::{gathered, next_covering, none_enabled, served_by};
 use crate::places::{MOST_REGIONS, RDEN, REGION_WORDS, WREN};
 use crate::verdict::{Reason, Rule, Verdict};
-use access::{Bus, Cid, DEBUGGER, Kind};
+use access::{Bus, DEBUGGER, Kind};
 
 // The first test that a kind of asking fails.
 fn reason(a: Admits, k: Kind) -> Option<Reason>
@@ -67,36 +68,18 @@ fn default_reason(bus: Bus, k: Kind) -> Option<Reason>
     Some(Reason::Compartment)
 }
 
-// The verdict of rule 1 or 2. None of the base regions below `first` covers. Bit den of a subregion's CFGR enables the direction.
-// What the loop over the regions does not look at comes last: it is handed on in memory, and leaves the registers to the loop.
-fn by_regions(
-    w: &[u32],
-    first: usize,
-    n: usize,
-    o: u32,
-    privileged: bool,
-    den: u32,
-    cid: Cid,
-    write: bool,
-    secure: bool,
-) -> Verdict
-    requires { (first ≤ n) × (base n ≤ length w.now) × Passed w.now o 0 first × (cid.0 ≤ debugger.0) × (den ≤ wren_bit) }
-    ensures { result ≡ verdict_of (by_asked den (masks privileged (serving (served_by cid.0)) w.now n o)) (record { cid = cid; write = write; privileged = privileged; secure = secure }) }
+// The verdict of rule 1 or 2. None of the base regions below `first` covers.
+fn by_regions(w: &[u32], first: usize, n: usize, o: u32, k: Kind) -> Verdict
+    requires { (first ≤ n) × (base n ≤ length w.now) × Passed w.now o 0 first × (k.cid.0 ≤ debugger.0) }
+    ensures { result ≡ verdict_of (by_asked (cond k.write wren_bit rden_bit) (masks k.privileged (serving (served_by k.cid.0)) w.now n o)) k }
 {
-    // A part that is the whole: a slice made here is known to the compiler, which then hands w on in registers.
-    let words = &w[0..];
-    let m = gathered(words, first, n, o, served_by(cid), privileged);
-    let k = Kind {
-        cid,
-        write,
-        privileged,
-        secure,
-    };
+    // The bit of a subregion's CFGR that enables the direction.
+    let den = if k.write { WREN } else { RDEN };
+    let m = gathered(w, first, n, o, served_by(k.cid), k.privileged);
     judged(by_asked(m, den), k)
 }
 
-// The same where some base region covers. A direction has its own call, with its own bit: the compiler then leaves it a call, in
-// which there are registers enough.
+// The same where some base region covers.
 fn governed(w: &[u32], n: usize, o: u32, k: Kind) -> Option<Verdict>
     requires { (n ≤ most_regions) × (base n ≤ length w.now) × (k.cid.0 ≤ debugger.0) }
     ensures { result ≡ governed w.now n o k }
@@ -105,11 +88,7 @@ fn governed(w: &[u32], n: usize, o: u32, k: Kind) -> Option<Verdict>
         return None;
     }
     let first = next_covering(w, n, o)?;
-    let cid = k.cid;
-    if k.write {
-        return Some(by_regions(w, first, n, o, k.privileged, WREN, cid, true, k.secure));
-    }
-    Some(by_regions(w, first, n, o, k.privileged, RDEN, cid, false, k.secure))
+    Some(by_regions(w, first, n, o, k))
 }
 
 // The verdict at an offset, by the words of n base regions. Too few words, or a CID over 7, are refused for the compartment.
@@ -120,10 +99,7 @@ pub fn decide(bus: Bus, w: &[u32], n: usize, o: u32, k: Kind) -> Verdict
         rule: Rule::Default,
         reason: Some(Reason::Compartment),
     };
-    if MOST_REGIONS < n {
-        return nothing;
-    }
-    if w.len() < REGION_WORDS * n {
+    if !enough(w, n) {
         return nothing;
     }
     if DEBUGGER.0 < k.cid.0 {

@@ -77,7 +77,8 @@ fn base_scanned(w: &[u32], x: usize, o: u32, s: Scan) -> Scan
     inside_scanned(w, x, o, s)
 }
 
-// With the first n base regions, in one pass.
+// With the first n base regions, in one pass. `gathered` has no boundaries, and one walk for both would carry them, or a type that leaves
+// them out, through each of its three functions: as much to read, and more to prove.
 pub(crate) fn scanned(w: &[u32], n: usize, o: u32, to: u64) -> Scan
     requires { base n ≤ length w.now }
     ensures masks_value { result.masks ≡ masks false openings w.now n o }

@@ -1,4 +1,3 @@
-use mathlib.Core.Bool.{true, false}
 use mathlib.Core.Path.{ap, ◌∙◌}
 use native.Mathlib.Omega.{arith}
 use Rattle.std.specs.Prelude.{Some}
@@ -22,20 +21,9 @@ pub by_regions-requires : goal.by_regions-requires
 by_regions-requires c =
     let p = c.requires in
     let x = c.in_ok-first.ensures in
-    (omega (arith, x.high), p.1, x.passed, p.2, omega arith)
-
-pub returns-then-k : goal.returns-then-k
-returns-then-k c =
-    let a = c.args in
-    ap Some c.by_regions.ensures ∙ found_as a.w.now a.n a.o a.k c.requires.2 true c.if-k.true c.in_ok-first.ensures
-
-pub by_regions-requires-2 : goal.by_regions-requires-2
-by_regions-requires-2 c =
-    let p = c.requires in
-    let x = c.in_ok-first.ensures in
-    (omega (arith, x.high), p.1, x.passed, p.2, omega arith)
+    (omega (arith, x.high), p.1, x.passed, p.2)
 
 pub returns : goal.returns
 returns c =
     let a = c.args in
-    ap Some c.by_regions-2.ensures ∙ found_as a.w.now a.n a.o a.k c.requires.2 false c.if-k.false c.in_ok-first.ensures
+    ap Some c.by_regions.ensures ∙ found_as a.w.now a.n a.o a.k c.requires.2 c.in_ok-first.ensures
