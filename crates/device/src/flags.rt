@@ -1,10 +1,9 @@
 // The registers of the IAC in the state's memory, and the line and the count that are kept there.
-ghost use Rattle.std.specs.Prelude.{◌≡◌, ◌≤◌, get_or};
+ghost use Rattle.std.specs.Prelude.{◌≡◌, ◌≤◌};
 ghost use Rattle.iac.specs.Contents.{held_of, stored, with_held, with_word};
 ghost use Rattle.iac.specs.Held.{added, held, with_count};
 ghost use Rattle.iac.specs.OneWord.{kept};
-ghost use Rattle.iac.specs.Registers.{iisr, row_of};
-ghost use Rattle.iac.specs.declared.registers.Register.TheVariants.{Icr, Ier};
+ghost use Rattle.iac.specs.Registers.{row_of};
 ghost use Rattle.device.specs.Layout.{state_of};
 ghost use Rattle.device.specs.State.{flagged, with_iac};
 

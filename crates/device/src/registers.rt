@@ -19,6 +19,9 @@ const RIFSC_FLAG: Flag = Flag(158);
 
 const IAC_FLAG: Flag = Flag(138);
 
+// The three accesses end alike, in a match that stores or raises. It stays in each: what is stored and what is raised differs, so one
+// function over the three would take two closures in place of three lines. A Request says by a field whether it reads, so the reads require it.
+
 // A read of the controller's registers, which leaves the state.
 fn read_rifsc(state: &[u32; STATE_WORDS], reg: Register, q: Request) -> Answer
     requires { (q.write ≡ false) × (rifsc_registers.register_at q.offset ≡ Some reg) }

@@ -1,8 +1,8 @@
-ghost use Rattle.std.specs.Prelude.{cond, ◌≡◌, ◌<◌};
-ghost use Rattle.risaf.specs.Contents.{guard_from, guard_words, reset as guard_reset};
-ghost use Rattle.risaf.specs.Guards.{guard_count, is_guard, shape_of};
+ghost use Rattle.std.specs.Prelude.{cond, ◌≡◌};
+ghost use Rattle.risaf.specs.Contents.{guard_words, reset as guard_reset};
+ghost use Rattle.risaf.specs.Guards.{is_guard, shape_of};
 ghost use Rattle.device.specs.Layout.{state_of};
-ghost use Rattle.device.specs.State.{reset_state, with_guard, with_guard_at};
+ghost use Rattle.device.specs.State.{reset_state, with_guard};
 
 use crate::blocks::{store_iac, store_rifsc};
 use crate::guards::guard_start;
