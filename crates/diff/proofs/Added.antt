@@ -27,22 +27,22 @@ module _ (l : List ℕ) (n s a b : ℕ) where
   unfolding continues
   continues-first h = simp (le-ltb 0 n (omega arith))
 
-  pub continues-later : s ≤ get_or l (diff_row_numbers * n - 4) 0 → false ≡ continues l n s a b
+  pub continues-later : s ≤ get_or l (diff_row_numbers * n - diff_row_numbers + 1) 0 → false ≡ continues l n s a b
   unfolding continues
   continues-later h = by (ltb 0 n)
     where
-      off : eqb (get_or l (diff_row_numbers * n - 4) 0 + 1) s ≡ false
+      off : eqb (get_or l (diff_row_numbers * n - diff_row_numbers + 1) 0 + 1) s ≡ false
       off = ne_eqb _ s (λ e. omega arith)
 
-      by : (t : Bool) → false ≡ (t && goes_on (get_or l (diff_row_numbers * n - 4) 0) (get_or l (diff_row_numbers * n - 3) 0) (get_or l (diff_row_numbers * n - 2) 0) s a b)
+      by : (t : Bool) → false ≡ (t && goes_on (get_or l (diff_row_numbers * n - diff_row_numbers + 1) 0) (get_or l (diff_row_numbers * n - diff_row_numbers + 2) 0) (get_or l (diff_row_numbers * n - diff_row_numbers + 3) 0) s a b)
       by true = rw off
       by false = refl
 
-  pub continues-at : n ≢ 0 → get_or l (diff_row_numbers * n - 4) 0 < s
-      → (eqb (s - get_or l (diff_row_numbers * n - 4) 0) 1 && eqb (get_or l (diff_row_numbers * n - 3) 0) a && eqb (get_or l (diff_row_numbers * n - 2) 0) b)
+  pub continues-at : n ≢ 0 → get_or l (diff_row_numbers * n - diff_row_numbers + 1) 0 < s
+      → (eqb (s - get_or l (diff_row_numbers * n - diff_row_numbers + 1) 0) 1 && eqb (get_or l (diff_row_numbers * n - diff_row_numbers + 2) 0) a && eqb (get_or l (diff_row_numbers * n - diff_row_numbers + 3) 0) b)
       ≡ continues l n s a b
   unfolding continues
-  continues-at h k = rw (lt-ltb 0 n (omega arith), next (get_or l (diff_row_numbers * n - 4) 0) k)
+  continues-at h k = rw (lt-ltb 0 n (omega arith), next (get_or l (diff_row_numbers * n - diff_row_numbers + 1) 0) k)
     where
       next : (e : ℕ) → e < s → eqb (s - e) 1 ≡ eqb (e + 1) s
       next e h =
@@ -63,7 +63,7 @@ module _ (l : List ℕ) (n s e a b : ℕ) where
   unfolding count_with numbers_with
   put-none h = simp (eq-eqb a b h) (refl, refl)
 
-  pub put-grows : a ≢ b → continues l n s a b ≡ true → (n ≡ count_with l n s a b) × (set l (diff_row_numbers * n - 4) e ≡ numbers_with l n s e a b)
+  pub put-grows : a ≢ b → continues l n s a b ≡ true → (n ≡ count_with l n s a b) × (set l (diff_row_numbers * n - diff_row_numbers + 1) e ≡ numbers_with l n s e a b)
   unfolding count_with numbers_with
   put-grows h k = simp (ne_eqb a b h, k) (refl, refl)
 
@@ -98,15 +98,15 @@ module _ (r : DiffRows) (s₀ e₀ a₀ b₀ : ℕ) (l : List ℕ) where
   last-continues s a b =
       rw (
         lt-ltb 0 (suc (size_diff r)) (omega arith),
-        last-number (diff_row_numbers * suc (size_diff r) - 4) 1 (omega arith),
-        last-number (diff_row_numbers * suc (size_diff r) - 3) 2 (omega arith),
-        last-number (diff_row_numbers * suc (size_diff r) - 2) 3 (omega arith),
+        last-number (diff_row_numbers * suc (size_diff r) - diff_row_numbers + 1) 1 (omega arith),
+        last-number (diff_row_numbers * suc (size_diff r) - diff_row_numbers + 2) 2 (omega arith),
+        last-number (diff_row_numbers * suc (size_diff r) - diff_row_numbers + 3) 3 (omega arith),
       )
 
 grown : (r : DiffRows) (s₀ e₀ a₀ b₀ : ℕ) (l : List ℕ) (e : ℕ)
-    → set (filled_diff (more r s₀ e₀ a₀ b₀) l) (diff_row_numbers * suc (size_diff r) - 4) e ≡ filled_diff (more r s₀ e a₀ b₀) l
+    → set (filled_diff (more r s₀ e₀ a₀ b₀) l) (diff_row_numbers * suc (size_diff r) - diff_row_numbers + 1) e ≡ filled_diff (more r s₀ e a₀ b₀) l
 grown r s₀ e₀ a₀ b₀ l e =
-    let i : diff_row_numbers * suc (size_diff r) - 4 ≡ length (flat_diff r) + 1 = omega (arith, length-flat r) in
+    let i : diff_row_numbers * suc (size_diff r) - diff_row_numbers + 1 ≡ length (flat_diff r) + 1 = omega (arith, length-flat r) in
     rw (last_row r s₀ e₀ a₀ b₀ l, last_row r s₀ e a₀ b₀ l, i)
     (set_past (flat_diff r) (s₀ ∷ e₀ ∷ a₀ ∷ b₀ ∷ differing a₀ b₀ ∷ drop (diff_row_numbers * suc (size_diff r)) l) 1 e)
 

@@ -1,13 +1,13 @@
 -- Rows that go on one another to the end of the window: row after row, as the code tests them.
-use Prim.Native.Nat.{ℕ, ◌+◌, ◌-◌, ◌≤◌, ◌<◌}
-use mathlib.Core.Path.{◌≡◌, sym, ◌∙◌}
+use Prim.Native.Nat.{ℕ, ◌+◌, ◌%◌, ◌≤◌, ◌<◌}
+use mathlib.Core.Path.{◌≡◌, refl, sym, ◌∙◌}
 use mathlib.Core.Bool.{true, false, not, ◌&&◌, ◌||◌, false≢true, true≢false}
-use mathlib.Core.List.{List, [], ◌∷◌}
+use mathlib.Core.List.{List, [], ◌∷◌, ◌++◌}
 use mathlib.Core.Logic.{⊎_elim}
 use native.Mathlib.Omega.{arith}
 use lib.Dec.{leb, ltb, eqb}
 use lib.ListN.{length, get_or, drop, length-drop}
-use borrow.Author.Tests.{eq-eqb, ne_eqb, le-leb, lt-leb, le-ltb, eqb-true, leb-true, ltb-false, leb-false, not-false}
+use borrow.Author.Tests.{eq-eqb, le-leb, lt-leb, le-ltb, eqb-true, leb-true, ltb-false, leb-false, not-false}
 use Rattle.spans.proofs.Memory.{three}
 use Rattle.diff.specs.Lent.{tiles_from}
 use Rattle.diff.proofs.Tests.{both, neither, true-or-false}
@@ -48,48 +48,51 @@ module _ (m : List ℕ) (w at i : ℕ) where
       → (get_or m i 0 ≡ at) × (get_or m i 0 ≤ get_or m (i + 1) 0) × (tiles_from (get_or m (i + 1) 0 + 1) w (drop (i + 3) m) ≡ true)
   tiles-row h k = row-tiles at w _ _ (get_or m (i + 2) 0) _ (rw (three m i h) at k)
 
-  -- the code's tests of a row fail
-  pub tiles-broken : i + 3 ≤ length m
-      → (not (eqb (get_or m i 0) at) || ltb (get_or m (i + 1) 0) at || leb w (get_or m (i + 1) 0)) ≡ true → tiles_from at w (drop i m) ≡ false
-  tiles-broken h k =
+-- ---- the code's tests of a row r, before the numbers t
+
+a-row : (r t : List ℕ) → length r ≡ 3 → r ++ t ≡ get_or r 0 0 ∷ get_or r 1 0 ∷ get_or r 2 0 ∷ t
+a-row [] t n = absurd (omega (arith, n))
+a-row (s ∷ []) t n = absurd (omega (arith, n))
+a-row (s ∷ e ∷ []) t n = absurd (omega (arith, n))
+a-row (s ∷ e ∷ q ∷ []) t n = refl
+a-row (s ∷ e ∷ q ∷ x ∷ r) t n = absurd (omega (arith, n))
+
+module _ (at w : ℕ) (r t : List ℕ) (n : length r ≡ 3) where
+  -- they fail
+  pub tiles-broken : (not (eqb (get_or r 0 0) at) || ltb (get_or r 1 0) at || leb w (get_or r 1 0)) ≡ true → tiles_from at w (r ++ t) ≡ false
+  tiles-broken k =
       ⊎_elim
-      (λ t.
-      let r = tiles-row h t in
-      let l = tiles-le (get_or m (i + 1) 0 + 1) w (drop (i + 3) m) r.2 in
+      (λ (h : tiles_from at w (r ++ t) ≡ true).
+      let p = row-tiles at w _ _ (get_or r 2 0) t (rw (a-row r t n) at h) in
+      let l = tiles-le (get_or r 1 0 + 1) w t p.2 in
       absurd
       (true≢false
       (sym k
       ∙ rw (
-        eq-eqb (get_or m i 0) at r.0,
-        le-ltb (get_or m (i + 1) 0) at (omega (arith, r.0, r.1)),
-        lt-leb w (get_or m (i + 1) 0) (omega (arith, l)),
+        eq-eqb (get_or r 0 0) at p.0,
+        le-ltb (get_or r 1 0) at (omega (arith, p.0, p.1)),
+        lt-leb w (get_or r 1 0) (omega (arith, l)),
       ))))
-      (λ t. t)
-      (true-or-false (tiles_from at w (drop i m)))
+      (λ h. h)
+      (true-or-false (tiles_from at w (r ++ t)))
 
   -- they are passed
-  pub tiles-on : i + 3 ≤ length m
-      → (not (eqb (get_or m i 0) at) || ltb (get_or m (i + 1) 0) at || leb w (get_or m (i + 1) 0)) ≡ false
-      → (get_or m (i + 1) 0 < w) × (tiles_from (get_or m (i + 1) 0 + 1) w (drop (i + 3) m) ≡ tiles_from at w (drop i m))
+  pub tiles-on : (not (eqb (get_or r 0 0) at) || ltb (get_or r 1 0) at || leb w (get_or r 1 0)) ≡ false
+      → (get_or r 1 0 < w) × (tiles_from (get_or r 1 0 + 1) w t ≡ tiles_from at w (r ++ t))
   unfolding tiles_from
-  tiles-on h k =
-      let p = neither (not (eqb (get_or m i 0) at) || ltb (get_or m (i + 1) 0) at) (leb w (get_or m (i + 1) 0)) k in
-      let q = neither (not (eqb (get_or m i 0) at)) (ltb (get_or m (i + 1) 0) at) p.0 in
-      let s : get_or m i 0 ≡ at = eqb-true _ _ (not-false (eqb (get_or m i 0) at) q.0) in
-      let o : at ≤ get_or m (i + 1) 0 = ltb-false (get_or m (i + 1) 0) at q.1 in (
-        leb-false w (get_or m (i + 1) 0) p.1,
-        rw (three m i h, eq-eqb (get_or m i 0) at s, le-leb (get_or m i 0) (get_or m (i + 1) 0) (omega arith)),
+  tiles-on k =
+      let p = neither (not (eqb (get_or r 0 0) at) || ltb (get_or r 1 0) at) (leb w (get_or r 1 0)) k in
+      let q = neither (not (eqb (get_or r 0 0) at)) (ltb (get_or r 1 0) at) p.0 in
+      let s : get_or r 0 0 ≡ at = eqb-true _ _ (not-false (eqb (get_or r 0 0) at) q.0) in
+      let o : at ≤ get_or r 1 0 = ltb-false (get_or r 1 0) at q.1 in (
+        leb-false w (get_or r 1 0) p.1,
+        rw (a-row r t n, eq-eqb (get_or r 0 0) at s, le-leb (get_or r 0 0) (get_or r 1 0) (omega arith)),
       )
 
-  -- no row is left
-  pub tiles-end : i ≤ length m → length m - i < 3 → (eqb i (length m) && eqb at w) ≡ tiles_from at w (drop i m)
-  unfolding tiles_from
-  tiles-end h k =
-      let l : length (drop i m) ≡ length m - i = length-drop i m in
-      by (drop i m) l
-    where
-      by : (r : List ℕ) → length r ≡ length m - i → (eqb i (length m) && eqb at w) ≡ tiles_from at w r
-      by [] l = rw (eq-eqb i (length m) (omega arith))
-      by (x ∷ []) l = rw (ne_eqb i (length m) (λ e. omega arith))
-      by (x ∷ y ∷ []) l = rw (ne_eqb i (length m) (λ e. omega arith))
-      by (x ∷ y ∷ z ∷ r) l = absurd (omega arith)
+-- no row is left
+pub tiles-end : (at w : ℕ) (l : List ℕ) → length l < 3 → (eqb (length l % 3) 0 && eqb at w) ≡ tiles_from at w l
+unfolding tiles_from
+tiles-end at w [] k = refl
+tiles-end at w (x ∷ []) k = refl
+tiles-end at w (x ∷ y ∷ []) k = refl
+tiles-end at w (x ∷ y ∷ z ∷ l) k = absurd (omega arith)

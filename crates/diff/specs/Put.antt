@@ -6,11 +6,11 @@ use Rattle.diff.specs.Bits.{differing}
 use Rattle.diff.specs.Diff.{goes_on}
 use Rattle.diff.specs.Rows.{diff_row_numbers}
 
--- there is a last row, its end, old and new being the fourth, third and second last of its numbers, and the span goes on it
+-- there is a last row, its end, old and new being the second, third and fourth of its numbers, and the span goes on it
 unfoldable pub continues : List ℕ → ℕ → ℕ → ℕ → ℕ → Bool
 continues l n s a b =
-    let i = diff_row_numbers * n in
-    ltb 0 n && goes_on (get_or l (i - 4) 0) (get_or l (i - 3) 0) (get_or l (i - 2) 0) s a b
+    let i = diff_row_numbers * n - diff_row_numbers in
+    ltb 0 n && goes_on (get_or l (i + 1) 0) (get_or l (i + 2) 0) (get_or l (i + 3) 0) s a b
 
 -- how many rows are in use after one more span
 unfoldable pub count_with : List ℕ → ℕ → ℕ → ℕ → ℕ → ℕ
@@ -22,7 +22,7 @@ numbers_with l n s e a b =
     let i = diff_row_numbers * n in
     cond (eqb a b) l
     (cond (continues l n s a b)
-    (set l (i - 4) e)
+    (set l (i - diff_row_numbers + 1) e)
     (set (set (set (set (set l i s) (i + 1) e) (i + 2) a) (i + 3) b) (i + 4) (differing a b)))
 
 -- where in the map the row that encloses `at` begins, which is the row at i or the next

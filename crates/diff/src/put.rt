@@ -4,6 +4,14 @@ ghost use Rattle.diff.specs.Put.{continues, count_with, numbers_with};
 ghost use Rattle.diff.specs.Rows.{diff_row_numbers};
 
 use crate::fill::ROW_NUMBERS;
+use spans::{END, START};
+
+// Behind its start and end a row has these.
+const OLD: usize = 2;
+
+const NEW: usize = 3;
+
+const COUNT: usize = 4;
 
 // In how many bits two rights words differ.
 fn differing(old: u64, new: u64) -> u64
@@ -20,12 +28,12 @@ fn continues(lent: &[u64], count: usize, start: u64, old: u64, new: u64) -> bool
     if count == 0 {
         return false;
     }
-    let i = ROW_NUMBERS * count;
-    let end = lent[i - 4];
+    let last = ROW_NUMBERS * count - ROW_NUMBERS;
+    let end = lent[last + END];
     if start <= end {
         return false;
     }
-    (start - end == 1) & (lent[i - 3] == old) & (lent[i - 2] == new)
+    (start - end == 1) & (lent[last + OLD] == old) & (lent[last + NEW] == new)
 }
 
 // One more span behind the first count rows of lent memory, and how many rows there then are. Where its words are equal it is no
@@ -40,13 +48,13 @@ pub(crate) fn put(lent: &mut [u64], count: usize, start: u64, end: u64, old: u64
     }
     let i = ROW_NUMBERS * count;
     if continues(lent, count, start, old, new) {
-        lent[i - 4] = end;
+        lent[i - ROW_NUMBERS + END] = end;
         return count;
     }
-    lent[i] = start;
-    lent[i + 1] = end;
-    lent[i + 2] = old;
-    lent[i + 3] = new;
-    lent[i + 4] = differing(old, new);
+    lent[i + START] = start;
+    lent[i + END] = end;
+    lent[i + OLD] = old;
+    lent[i + NEW] = new;
+    lent[i + COUNT] = differing(old, new);
     count + 1
 }

@@ -8,14 +8,14 @@ ghost use Rattle.diff.specs.Rows.{filled_diff, size_diff};
 
 use crate::put::put;
 use map::fill::ROW_NUMBERS;
-use spans::near;
+use spans::{END, RIGHTS, near};
 
 // The row after the one at i, where that ends before at; else the one at i.
 fn past(rows: &[u64], i: usize, at: u64) -> usize
     requires { i + map.row_numbers ≤ length rows.now }
     ensures { result ≡ past_row rows.now i at }
 {
-    if rows[i + 1] < at {
+    if rows[i + END] < at {
         return i + ROW_NUMBERS;
     }
     i
@@ -33,8 +33,15 @@ pub(crate) fn walk(before: &[u64], after: &[u64], window: u64, lent: &mut [u64])
     let mut j: usize = 0;
     let mut count: usize = 0;
     while at < window {
-        let to = near(at, before[i + 1] + 1, after[j + 1] + 1);
-        count = put(lent, count, at, to - 1, before[i + 2], after[j + 2]);
+        let to = near(at, before[i + END] + 1, after[j + END] + 1);
+        count = put(
+            lent,
+            count,
+            at,
+            to - 1,
+            before[i + RIGHTS],
+            after[j + RIGHTS],
+        );
         at = to;
         i = past(before, i, to);
         j = past(after, j, to);

@@ -12,7 +12,7 @@ use regions::{active_at, stretch_at};
 use risaf::GuardNumber;
 
 // A row is three numbers, and no map has more than 67 rows.
-pub const ROW_NUMBERS: usize = 3;
+pub const ROW_NUMBERS: usize = spans::ROW_NUMBERS;
 
 pub const MOST_ROWS: usize = 67;
 

@@ -129,15 +129,6 @@ place_short (s ∷ e ∷ q ∷ rest) x h = absurd (omega arith)
 abbrev pub encloses-at : List ℕ → ℕ → ℕ → Bool
 encloses-at m x i = encloses (get_or m i 0) (get_or m (i + 1) 0) x
 
--- of the row from i on the end stands at j
-module _ (m : List ℕ) (x i j : ℕ) (e : j ≡ i + 1) where
-  -- a row that ends before x does not enclose it
-  pub ended-before : get_or m j 0 < x → encloses-at m x i ≡ false
-  ended-before h = outside (get_or m i 0) (get_or m (i + 1) 0) x (inr (rw (← e) h))
-
-  pub ends-later : i + 3 ≤ length m → x ≤ get_or m j 0 → (i + 3 ≤ length m) × (x ≤ get_or m (i + 1) 0)
-  ends-later l h = (l, rw (← e) h)
-
 module _ (m : List ℕ) (x i : ℕ) (h : i + 3 ≤ length m) (p : Passed m x i) where
   one-row : row_place (drop i m) x ≡ cond (encloses-at m x i) 0 (row_place (drop (i + 3) m) x + 3)
   unfolding row_place
@@ -153,6 +144,10 @@ module _ (m : List ℕ) (x i : ℕ) (h : i + 3 ≤ length m) (p : Passed m x i) 
       let r : row_place (drop i m) x ≡ row_place (drop (i + 3) m) x + 3 = one-row ∙ simp e in
       rw s (h, omega (arith, r, p.1))
 
+  -- a row that ends before x does not enclose it
+  pub place-ended : get_or m (i + 1) 0 < x → (j : ℕ) → j ≡ i + 3 → Passed m x j
+  place-ended u j s = place-later j s (outside (get_or m i 0) (get_or m (i + 1) 0) x (inr u))
+
 -- where no whole row is left, the numbers are at an end
 pub ended-all : (m : List ℕ) (x i : ℕ) → length m < i + 3 → Passed m x i → Passed m x (length m)
 ended-all m x i h p =
@@ -166,15 +161,3 @@ pub place-all : (m : List ℕ) (x i : ℕ) → length m ≤ i → Passed m x i �
 place-all m x i h p =
     let rest = length-drop i m in
     omega (arith, p.0, p.1, rest, place_short (drop i m) x (omega (arith, rest, h)))
-
--- ---- four rows, each passed behind the one before
-
-module _ (m : List ℕ) (x i : ℕ) (h : i + 12 ≤ length m) (p : Passed m x i) (e : encloses-at m x i ≡ false) where
-  pub passed-two : encloses-at m x (i + 3) ≡ false → Passed m x (i + 6)
-  passed-two = place-later m x (i + 3) (omega arith) (place-later m x i (omega arith) p (i + 3) refl e) (i + 6) (omega arith)
-
-  pub passed-three : encloses-at m x (i + 3) ≡ false → encloses-at m x (i + 6) ≡ false → Passed m x (i + 9)
-  passed-three f = place-later m x (i + 6) (omega arith) (passed-two f) (i + 9) (omega arith)
-
-  pub passed-four : encloses-at m x (i + 3) ≡ false → encloses-at m x (i + 6) ≡ false → encloses-at m x (i + 9) ≡ false → Passed m x (i + 12)
-  passed-four f g = place-later m x (i + 9) (omega arith) (passed-three f g) (i + 12) (omega arith)

