@@ -29,11 +29,6 @@ impl Bus {
         ensures { result ≡ heard self k }
     {
         let cid = self.hears_cid(k.cid);
-        Kind {
-            cid,
-            write: k.write,
-            privileged: k.privileged,
-            secure: k.secure,
-        }
+        Kind { cid, ..k }
     }
 }

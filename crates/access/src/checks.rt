@@ -1,3 +1,5 @@
+#![tactic(auto, unfolding(crate::specs::Checks::answered_with, crate::specs::Checks::reached_with))]
+
 ghost use Rattle.std.specs.Prelude.{◌≡◌};
 ghost use Rattle.access.specs.Checks.{answered, reached};
 

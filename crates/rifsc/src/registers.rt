@@ -111,11 +111,7 @@ impl Register {
             Register::Attr(m) => Row::of(true, Lock::RimcLock, m, 0, ATTR_NAMED),
             Register::Ppsr(x) => Row {
                 writable: false,
-                secure: true,
-                lock: Lock::Never,
-                index: x,
-                fixed: ppsr(x),
-                named: 0,
+                ..Row::of(true, Lock::Never, x, ppsr(x), 0)
             },
         }
     }
