@@ -28,7 +28,8 @@ pub(crate) fn four(line: &[u8], from: usize) -> u32
         + (line[from + 3] as u32)
 }
 
-// Whether the bytes from `from` on begin with a keyword, which has four bytes or more.
+// Whether the bytes from `from` on begin with a keyword, which has four bytes or more. Not `starts_with`: the must-fail edit `second`
+// passes over a keyword's fifth byte here.
 pub(crate) fn begins(line: &[u8], from: usize, keyword: &[u8]) -> bool
     requires { (from ≤ suc (length line.now)) × (4 ≤ length keyword.now) × (length keyword.now ≤ 8) }
     ensures { result ≡ begins_at line.now from keyword.now }
@@ -39,12 +40,10 @@ pub(crate) fn begins(line: &[u8], from: usize, keyword: &[u8]) -> bool
     if four(line, from) != four(keyword, 0) {
         return false;
     }
-    let mut i = FOUR;
-    while i < keyword.len() {
+    for i in FOUR..keyword.len() {
         if line[from + i] != keyword[i] {
             return false;
         }
-        i += 1;
     }
     true
 }

@@ -65,7 +65,8 @@ pub(crate) fn hex_at(line: &[u8], from: usize) -> Option<u32>
     hex(line, from)
 }
 
-// A decimal number without leading zeros.
+// A decimal number without leading zeros. The loop counts, since where the field ends is part of the result.
+#[inline(always)]
 pub(crate) fn decimal_at(line: &[u8], from: usize) -> Option<(u32, usize)>
     ensures { result ≡ decimal_at line.now from }
 {
@@ -77,8 +78,7 @@ pub(crate) fn decimal_at(line: &[u8], from: usize) -> Option<(u32, usize)>
         return None;
     }
     let mut n = (first - b'0') as u64;
-    let mut i = from + 1;
-    while i < line.len() {
+    for i in from + 1..line.len() {
         let b = line[i];
         if b == b'\t' {
             return Some((n as u32, i));
@@ -90,9 +90,8 @@ pub(crate) fn decimal_at(line: &[u8], from: usize) -> Option<(u32, usize)>
         if NUMBER_MOST < n {
             return None;
         }
-        i += 1;
     }
-    Some((n as u32, i))
+    Some((n as u32, line.len()))
 }
 
 // The one letter or the other.

@@ -18,7 +18,6 @@ loop-i-init c =
     let w = c.if-line-from.false in
     let lines = c.shared_slice_known-1.given in
     let words = c.shared_slice_known-2-1.given in (
-      c.requires.1,
       w,
       begins-four c.args.line.now c.args.from c.args.keyword.now w c.requires.1 (λ i. (lines i).fits) (λ i. (words i).fits)
           (sym c.four.ensures ∙ c.if-four.false ∙ c.four-2.ensures),
@@ -28,26 +27,17 @@ pub returns-then-line-from-2 : goal.returns-then-line-from-2
 returns-then-line-from-2 c =
     let l = c.loop-i in
     let a = c.args in
-    sym (sym l.invariant.2 ∙ begins-differs a.line.now a.from a.keyword.now l.invariant.1 l.i c.loop-i-test.true c.if-line-from-2.true)
+    sym (sym l.invariant.1 ∙ begins-differs a.line.now a.from a.keyword.now l.invariant.0 l.i c.loop-i-test.true c.if-line-from-2.true)
 
 pub loop-i-preserved : goal.loop-i-preserved
 loop-i-preserved c =
     let l = c.loop-i in
     let t = c.loop-i-test.true in
     let a = c.args in
-    (omega (arith, t), l.invariant.1, begins-step a.line.now a.from a.keyword.now l.invariant.1 l.i t c.if-line-from-2.false ∙ l.invariant.2)
+    (l.invariant.0, begins-step a.line.now a.from a.keyword.now l.invariant.0 l.i t c.if-line-from-2.false ∙ l.invariant.1)
 
 pub returns : goal.returns
 returns c =
     let l = c.loop-i in
     let a = c.args in
-    sym (sym l.invariant.2 ∙ begins-all a.line.now a.from a.keyword.now l.invariant.1 l.i c.loop-i-test.false)
-
-pub four-requires : goal.four-requires
-four-requires c = omega (arith, c.requires.1, c.if-line-from.false)
-
-pub four-requires-2 : goal.four-requires-2
-four-requires-2 c = omega (arith, c.requires.1)
-
-pub overflow_add-from-in-loop-i : goal.overflow_add-from-in-loop-i
-overflow_add-from-in-loop-i c = omega (arith, c.loop-i.invariant.1, c.loop-i-test.true)
+    sym (sym l.invariant.1 ∙ begins-all a.line.now a.from a.keyword.now l.invariant.0 l.i c.loop-i-test.false)

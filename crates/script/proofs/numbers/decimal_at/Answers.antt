@@ -5,7 +5,7 @@ use mathlib.Core.Path.{◌≡◌, refl, sym, ap, ◌∙◌}
 use Prim.Native.Nat.{◌+◌, ◌*◌, ◌-◌}
 use native.Mathlib.Omega.{arith}
 use lib.Dec.{eqb}
-use lib.ListN.{get_or}
+use lib.ListN.{get_or, length}
 use Rattle.script.specs.Places.{decimal_at}
 use Rattle.script.proofs.DecimalAt.{reads_on, decimal-bounds, decimal-past, decimal-none, decimal-begin, decimal-tab, decimal-end, decimal-stop, decimal_step, decimal-over}
 use Rattle.script.proofs.Told.{told}
@@ -24,19 +24,19 @@ loop-i-init c =
     let first = told c.is_decimal.ensures (c.if-not-is_decimal.false) in
     let first-bounds = decimal-bounds (get_or c.args.line.now c.args.from 0) first in
     let w = c.if-line-from.false in
-    (omega (arith, w), omega (arith, first-bounds), decimal-begin _ _ w first)
+    (omega (arith, first-bounds), decimal-begin _ _ w first)
 
 pub returns-then-b-eq9 : goal.returns-then-b-eq9
 returns-then-b-eq9 c =
     let l = c.loop-i in
-    decimal-tab _ l.n l.i c.loop-i-test.true c.if-b-eq9.true l.invariant.1 ∙ l.invariant.2
+    decimal-tab _ l.n l.i c.loop-i-test.true c.if-b-eq9.true l.invariant.0 ∙ l.invariant.1
 
 pub returns-then-n-is_decimal : goal.returns-then-n-is_decimal
 returns-then-n-is_decimal c =
     let l = c.loop-i in
     decimal-stop _ l.n l.i c.loop-i-test.true c.if-b-eq9.false
     (ap (λ (t : Bool). eqb l.n 0 || not t) (sym c.is_decimal-in-loop-i.ensures) ∙ c.if-n-is_decimal.true)
-    ∙ l.invariant.2
+    ∙ l.invariant.1
 
 or-not : (t u : Bool) → (t || not u) ≡ false → (t ≡ false) × (u ≡ true)
 or-not true u h = absurd (true≢false h)
@@ -47,60 +47,18 @@ pub returns-then-n-gt-NUMBER_MOST : goal.returns-then-n-gt-NUMBER_MOST
 returns-then-n-gt-NUMBER_MOST c =
     let more = or-not _ _ c.if-n-is_decimal.false in
     let next = told c.is_decimal-in-loop-i.ensures more.1 in
-    let step : reads_on (c.args.line.now) (10 * c.loop-i.n + ((get_or (c.args.line.now) c.loop-i.i 0) - 48)) (c.loop-i.i + 1) ≡ decimal_at (c.args.line.now) c.args.from = let l = c.loop-i in decimal_step (c.args.line.now) l.n l.i c.loop-i-test.true c.if-b-eq9.false (omega (arith, eqb-false l.n 0 more.0)) next ∙ l.invariant.2 in
+    let step : reads_on (c.args.line.now) (10 * c.loop-i.n + ((get_or (c.args.line.now) c.loop-i.i 0) - 48)) (c.loop-i.i + 1) ≡ decimal_at (c.args.line.now) c.args.from = let l = c.loop-i in decimal_step (c.args.line.now) l.n l.i c.loop-i-test.true c.if-b-eq9.false (omega (arith, eqb-false l.n 0 more.0)) next ∙ l.invariant.1 in
     decimal-over _ _ _ c.if-n-gt-NUMBER_MOST.true ∙ step
 
 pub loop-i-preserved : goal.loop-i-preserved
 loop-i-preserved c =
     let more = or-not _ _ c.if-n-is_decimal.false in
     let next = told c.is_decimal-in-loop-i.ensures more.1 in
-    let onward : reads_on (c.args.line.now) (10 * c.loop-i.n + ((get_or (c.args.line.now) c.loop-i.i 0) - 48)) (c.loop-i.i + 1) ≡ decimal_at (c.args.line.now) c.args.from = let l = c.loop-i in decimal_step (c.args.line.now) l.n l.i c.loop-i-test.true c.if-b-eq9.false (omega (arith, eqb-false l.n 0 more.0)) next ∙ l.invariant.2 in
-    let w = c.loop-i-test.true in
-    (omega (arith, w), c.if-n-gt-NUMBER_MOST.false, onward)
+    let onward : reads_on (c.args.line.now) (10 * c.loop-i.n + ((get_or (c.args.line.now) c.loop-i.i 0) - 48)) (c.loop-i.i + 1) ≡ decimal_at (c.args.line.now) c.args.from = let l = c.loop-i in decimal_step (c.args.line.now) l.n l.i c.loop-i-test.true c.if-b-eq9.false (omega (arith, eqb-false l.n 0 more.0)) next ∙ l.invariant.1 in
+    (c.if-n-gt-NUMBER_MOST.false, onward)
 
 pub returns : goal.returns
 returns c =
     let l = c.loop-i in
-    decimal-end _ l.n l.i c.loop-i-test.false l.invariant.1 ∙ l.invariant.2
-
-pub overflow_sub-n : goal.overflow_sub-n
-overflow_sub-n c =
-    let first = told c.is_decimal.ensures (c.if-not-is_decimal.false) in
-    let first-bounds = decimal-bounds (get_or c.args.line.now c.args.from 0) first in
-    omega (arith, first-bounds)
-
-pub overflow_cast-n : goal.overflow_cast-n
-overflow_cast-n c =
-    let first = told c.is_decimal.ensures (c.if-not-is_decimal.false) in
-    let first-bounds = decimal-bounds (get_or c.args.line.now c.args.from 0) first in
-    omega (arith, first-bounds)
-
-pub overflow_cast-result : goal.overflow_cast-result
-overflow_cast-result c = omega (arith, c.loop-i.invariant.1)
-
-pub overflow_mul-n : goal.overflow_mul-n
-overflow_mul-n c = omega (arith, c.loop-i.invariant.1)
-
-pub overflow_sub-n-in-loop-i : goal.overflow_sub-n-in-loop-i
-overflow_sub-n-in-loop-i c =
-    let more = or-not _ _ c.if-n-is_decimal.false in
-    let next = told c.is_decimal-in-loop-i.ensures more.1 in
-    let bounds = decimal-bounds (get_or (c.args.line.now) c.loop-i.i 0) next in
-    omega (arith, bounds)
-
-pub overflow_cast-n-in-loop-i : goal.overflow_cast-n-in-loop-i
-overflow_cast-n-in-loop-i c =
-    let more = or-not _ _ c.if-n-is_decimal.false in
-    let next = told c.is_decimal-in-loop-i.ensures more.1 in
-    let bounds = decimal-bounds (get_or (c.args.line.now) c.loop-i.i 0) next in
-    omega (arith, bounds)
-
-pub overflow_add-n : goal.overflow_add-n
-overflow_add-n c =
-    let more = or-not _ _ c.if-n-is_decimal.false in
-    let next = told c.is_decimal-in-loop-i.ensures more.1 in
-    let bounds = decimal-bounds (get_or (c.args.line.now) c.loop-i.i 0) next in
-    omega (arith, bounds, c.loop-i.invariant.1)
-
-pub overflow_cast-result-2 : goal.overflow_cast-result-2
-overflow_cast-result-2 c = omega (arith, c.loop-i.invariant.1)
+    let end : l.i ≡ length c.args.line.now = omega arith in
+    rw (← end) (decimal-end _ l.n l.i c.loop-i-test.false l.invariant.0 ∙ l.invariant.1)
