@@ -5,16 +5,10 @@ use Rattle.stream.specs.Blocks.{called, fits, place_at, stop, whole_line}
 use Rattle.stream.specs.Kept.{Kept, kept_count, kept_in, kept_of, line_room, nothing_of}
 use Rattle.stream.specs.Transcript.{lines_in}
 use Rattle.stream.specs.declared.kept.Held.{Held}
-use Rattle.stream.proofs.Memory.{kept_line, kept-long, kept-most, too_long}
+use Rattle.stream.proofs.Memory.{kept_line, too_long}
 
 module _ (k : Kept) (text : List ℕ) (few : k.held.bytes ≤ line_room) (long : length k.memory ≡ line_room) {memory : List ℕ} {n : ℕ}
     (count : n ≡ kept_count k.held.bytes text) (copied : memory ≡ kept_in k.memory k.held.bytes text) where
-  pub begun-fits : n ≤ length memory
-  begun-fits =
-      let b = k.held.bytes in
-      let full : length memory ≡ line_room = ap length copied ∙ kept-long k.memory text b long few in
-      omega (arith, count, full, kept-most text b few)
-
   -- as much of the line as is kept reads as all of it
   pub begun-same : command_of (take n memory) ≡ command_of (whole_line k text)
   begun-same =

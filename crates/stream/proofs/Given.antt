@@ -31,7 +31,6 @@ module _ (k : Kept) (block out : List ℕ) (at : ℕ) {r : Taken} (e : r ≡ giv
         go (suc n) h = omega arith
 
 pub start-few : {h : Held} → h ≡ at_start → h.bytes ≤ line_room
-unfolding at_start
 start-few e = omega (arith, ap (λ (h : Held). h.bytes) e)
 
 -- a block's part from a place on

@@ -20,7 +20,8 @@ pub struct Taken {
     pub bad: Option<u64>,
 }
 
-// A line obeyed: the place behind what it prints, which stays where there is no room, and whether the line is bad.
+// A line obeyed: the place behind what it prints, which stays where there is no room, and whether the line is bad. Both say something of
+// each line, so neither is an Option.
 #[derive(Clone, Copy)]
 struct Ended {
     place: usize,
@@ -71,17 +72,18 @@ fn behind_bad(took: usize, filled: usize, number: u64) -> Taken
     }
 }
 
-// Takes the lines at the end of a block of `size` bytes, where nothing is kept.
+// Takes the lines at the end of a block of `size` bytes, where nothing is kept. What is lent stays apart, as in `take`: a struct of three
+// `&mut` is no plainer, since its contract would have to say that each stays the one that it was.
 fn take_lines(
     number: u64,
     state: &mut [u32],
-    line: &mut [u8],
+    line: &mut [u8; LINE_ROOM],
     size: usize,
     block: &[u8],
     out: &mut [u8],
     at: usize,
 ) -> Taken
-    requires { (length block.now ≤ size) × (length line.old ≡ line_room) }
+    requires { length block.now ≤ size }
     ensures { Stands (stop (place_at (size - length block.now) (kept_of (nothing_of number) line.old state.old) out.old at) (lines_in block.now)) result state.new line.new out.new }
 {
     let mut left = block;
@@ -128,12 +130,12 @@ fn has_room(out: &[u8], at: usize) -> bool
 fn take_begun(
     held: Held,
     state: &mut [u32],
-    line: &mut [u8],
+    line: &mut [u8; LINE_ROOM],
     block: &[u8],
     out: &mut [u8],
     at: usize,
 ) -> Taken
-    requires { (held.bytes ≤ line_room) × (length line.old ≡ line_room) × (held.bytes ≢ 0) }
+    requires { (held.bytes ≤ line_room) × (held.bytes ≢ 0) }
     ensures { Stands (stop (place_at 0 (kept_of held line.old state.old) out.old at) (lines_in block.now)) result state.new line.new out.new }
 {
     let number = held.number;
@@ -176,7 +178,10 @@ pub fn take(
     ensures memory { line.new ≡ (called (kept_of held line.old state.old) block.now out.old at).kept.memory }
     ensures words { state.new ≡ (called (kept_of held line.old state.old) block.now out.old at).kept.words }
 {
-    if line.len() != LINE_ROOM || LINE_ROOM < held.bytes {
+    let Some(line) = line.as_mut_array::<LINE_ROOM>() else {
+        return stopped(0, at, held);
+    };
+    if LINE_ROOM < held.bytes {
         return stopped(0, at, held);
     }
     if held.bytes == 0 {

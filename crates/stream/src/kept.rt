@@ -11,6 +11,7 @@ use print::print_bad;
 pub const LINE_ROOM: usize = 65;
 
 // What is kept between calls beside the state: how many bytes of the unfinished line, the first of LINE_ROOM lent ones, and its number.
+// No invariant bounds the count: `called` in specs/Blocks says what `take` answers for more (`fits`).
 #[derive(Clone, Copy)]
 pub struct Held {
     pub bytes: usize,
@@ -30,9 +31,10 @@ pub fn start(state: &mut [u32]) -> Held
 }
 
 // Puts bytes behind the n that are kept, as many as there is room for. How many are kept then.
-pub(crate) fn keep(line: &mut [u8], n: usize, bytes: &[u8]) -> usize
-    requires { (length line.old ≡ line_room) × (n ≤ line_room) }
+pub(crate) fn keep(line: &mut [u8; LINE_ROOM], n: usize, bytes: &[u8]) -> usize
+    requires { n ≤ line_room }
     ensures value { result ≡ kept_count n bytes.now }
+    ensures few { result ≤ line_room }
     ensures line_after { line.new ≡ kept_in line.old n bytes.now }
 {
     let count = (LINE_ROOM - n).min(bytes.len());

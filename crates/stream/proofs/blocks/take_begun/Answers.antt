@@ -1,7 +1,7 @@
 -- `stream::blocks::take_begun` meets its contract: the begun line, as far as it is kept, and then the lines behind it.
-use Rattle.std.proofs.Common.{length, take, refl, sym, ◌∙◌, arith, length-take-le}
-use Rattle.stream.specs.Kept.{kept_of}
-use Rattle.stream.proofs.Begun.{begun-fits, begun-memory, begun-same}
+use Rattle.std.proofs.Common.{◌≡◌, length, take, refl, sym, ◌∙◌, arith}
+use Rattle.stream.specs.Kept.{kept_of, line_room}
+use Rattle.stream.proofs.Begun.{begun-memory, begun-same}
 use Rattle.stream.proofs.Stops.{goes-on, stands_at, stops-bad, stops-full, stops-last}
 use Rattle.stream.proofs.blocks.take_begun.Goals as goal
 
@@ -21,20 +21,6 @@ returns-then-not-has_room c =
     stops-full (length block) 0 block k a.out.now a.at (omega arith) refl c.in-Some.ensures
     (sym c.has_room.ensures ∙ c.if-not-has_room.true) (refl, refl) c.stopped-then-not-has_room.ensures
 
-pub slice_bounds-end_line-end : goal.slice_bounds-end_line-end
-slice_bounds-end_line-end c =
-    let a = c.args in
-    let k = kept_of a.held a.line.now a.state.now in
-    let e = c.keep-bytes-2.ensures in
-    begun-fits k c.in-Some.text.now c.requires.0 c.requires.1 e.value e.line_after
-
-pub slice_bounds-end_line-end-2 : goal.slice_bounds-end_line-end-2
-slice_bounds-end_line-end-2 c =
-    let a = c.args in
-    let k = kept_of a.held a.line.now a.state.now in
-    let e = c.keep-bytes-2.ensures in
-    sym (length-take-le c.keep-bytes-2.result c.keep-bytes-2.new.line (begun-fits k c.in-Some.text.now c.requires.0 c.requires.1 e.value e.line_after))
-
 pub returns-then-ended : goal.returns-then-ended
 returns-then-ended c =
     let a = c.args in
@@ -42,10 +28,11 @@ returns-then-ended c =
     let text = c.in-Some.text.now in
     let k = kept_of a.held a.line.now a.state.now in
     let b = c.keep-bytes-2.ensures in
+    let long : length a.line.now ≡ line_room = omega arith in
     let e = c.end_line-ended.ensures in
     stops-bad (length block) 0 block k a.out.now a.at (omega arith) refl c.in-Some.ensures
-    (take c.keep-bytes-2.result c.keep-bytes-2.new.line) (begun-same k text c.requires.0 c.requires.1 b.value b.line_after)
-    e.place_value e.bad_value e.out_after e.state_after (begun-memory k text c.requires.0 c.requires.1 b.value b.line_after c.requires.2)
+    (take c.keep-bytes-2.result c.keep-bytes-2.new.line) (begun-same k text c.requires.0 long b.value b.line_after)
+    e.place_value e.bad_value e.out_after e.state_after (begun-memory k text c.requires.0 long b.value b.line_after c.requires.1)
     (sym c.has_room.ensures ∙ c.if-not-has_room.false) c.if-ended.true c.behind_bad.ensures
 
 pub returns : goal.returns
@@ -55,10 +42,11 @@ returns c =
     let text = c.in-Some.text.now in
     let k = kept_of a.held a.line.now a.state.now in
     let b = c.keep-bytes-2.ensures in
+    let long : length a.line.now ≡ line_room = omega arith in
     let e = c.end_line-ended.ensures in
     stands_at
     (goes-on (length block) 0 block k a.out.now a.at (omega arith) refl c.in-Some.ensures
-    (take c.keep-bytes-2.result c.keep-bytes-2.new.line) (begun-same k text c.requires.0 c.requires.1 b.value b.line_after)
-    e.place_value e.bad_value e.out_after e.state_after (begun-memory k text c.requires.0 c.requires.1 b.value b.line_after c.requires.2)
+    (take c.keep-bytes-2.result c.keep-bytes-2.new.line) (begun-same k text c.requires.0 long b.value b.line_after)
+    e.place_value e.bad_value e.out_after e.state_after (begun-memory k text c.requires.0 long b.value b.line_after c.requires.1)
     (sym c.has_room.ensures ∙ c.if-not-has_room.false) c.if-ended.false)
     c.take_lines.ensures

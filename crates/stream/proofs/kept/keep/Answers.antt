@@ -11,6 +11,7 @@ returns c =
     let all = kept-all a.line.now a.bytes.now a.n i c.min-count.ensures in
     record {
       value = all.0;
+      few = omega (arith, c.min-count.ensures);
       line_after =
           put_mid-paste a.n _ a.line.now c.copy_from_slice.new.self _ i c.copy_from_slice.ensures.after (omega arith)
           (sym (length-take-le i a.bytes.now (omega (arith, c.min-count.ensures))))
