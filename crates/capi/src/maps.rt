@@ -4,8 +4,8 @@ ghost use Rattle.diff.specs.Fill.{diff_answer, diff_numbers, diff_used};
 ghost use Rattle.map.specs.Fill.{fill_answer, fill_numbers, fill_used};
 ghost use Rattle.spans.specs.Lookup.{lookup_in};
 
-use map::fill::ROW_NUMBERS;
 use risaf::GuardNumber;
+use spans::{END, RIGHTS, ROW_NUMBERS, START};
 
 #[unsafe(no_mangle)]
 pub extern "C" fn rif_map(state: &[u32], guard: u32, numbers: &mut [u64], used: &mut u64) -> u64
@@ -34,9 +34,9 @@ pub extern "C" fn rif_lookup(
 {
     let row = map::lookup(numbers, offset);
     if row.len() == ROW_NUMBERS {
-        *start = row[0];
-        *end = row[1];
-        *rights = row[2];
+        *start = row[START];
+        *end = row[END];
+        *rights = row[RIGHTS];
     }
     row.len() as u64
 }

@@ -22,7 +22,7 @@ fn past(rows: &[u64], i: usize, at: u64) -> usize
 }
 
 // What differs between two maps of one window, over the front of lent memory, and its count of rows: both are walked once, from
-// boundary to boundary of either.
+// boundary to boundary of either. No `for` counts the turns: each finds where the next begins, and which row is passed.
 pub(crate) fn walk(before: &[u64], after: &[u64], window: u64, lent: &mut [u64]) -> usize
     requires { (tiles window before.now ≡ true) × (tiles window after.now ≡ true) × (length before.now ≤ map.least_room) × (length after.now ≤ map.least_room) × (least_diff_room ≤ length lent.old) }
     ensures value { result ≡ size_diff (diff_of (map_rights before.now) (map_rights after.now) window) }

@@ -19,7 +19,8 @@ pub const MOST_ROWS: usize = 67;
 pub const LEAST_ROOM: usize = ROW_NUMBERS * MOST_ROWS;
 
 // The map of what n base regions give, over the front of lent memory, and its count of rows: from boundary to boundary, a span
-// with the rights at its start. They are those of the active base regions, up to the next START.
+// with the rights at its start. They are those of the active base regions, up to the next START. No `for` counts the turns: each
+// finds where the next begins.
 fn sweep(bus: Bus, w: &[u32], n: usize, window: u64, lent: &mut [u64]) -> usize
     requires { (n ≤ most_regions) × (base n ≤ length w.now) × (window ≤ 2 ^ 32) × (least_room ≤ length lent.old) }
     ensures value { result ≡ size (map_of (rights_word bus w.now n) window) }

@@ -44,7 +44,8 @@ fn end_place(map: &[u64], from: usize, offset: u64) -> usize
     map.len()
 }
 
-// Where in the map the first row whose start and end enclose the offset begins, or the map's length where there is none.
+// Where in the map the first row whose start and end enclose the offset begins, or the map's length where there is none. Each turn
+// goes on from where the one before found an end, so no `for` counts them.
 pub fn row_place(map: &[u64], offset: u64) -> usize
     ensures { result ≡ row_place map.now offset }
 {
