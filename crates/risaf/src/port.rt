@@ -1,4 +1,4 @@
-#![tactic(auto, unfolding(crate::specs::Port::accessed, crate::specs::Port::answer_of, crate::specs::Port::checks_of, crate::specs::Port::allowed_of, crate::specs::Port::delegated, crate::specs::Port::port_in, crate::specs::Port::read_of, crate::specs::Port::read_reached, crate::specs::Port::read_at, crate::specs::Port::read_answer, crate::specs::Port::word_in, crate::specs::Rows::row_at, crate::specs::Rows::row_of, access::specs::Checks::answered_with, access::specs::Checks::reached_with))]
+#![tactic(auto, unfolding(crate::specs::Port::accessed, crate::specs::Port::answer_of, crate::specs::Port::checks_of, crate::specs::Port::allowed_of, crate::specs::Port::delegated, crate::specs::Port::port_in, crate::specs::Port::read_of, crate::specs::Port::read_reached, crate::specs::Port::read_at, crate::specs::Port::read_answer, crate::specs::Port::word_in, crate::specs::Rows::row_at, crate::specs::Rows::row_of))]
 
 ghost use Rattle.std.specs.Prelude.{◌&&◌, cond, true, ◌≡◌, get_or};
 ghost use Rattle.words.specs.Bit.{word};
@@ -20,7 +20,7 @@ use crate::contents::{CR, IASR};
 use crate::guards::{Shape, low_bits};
 use crate::registers::{Register, register_at};
 use crate::rows::{Form, Lock, Row};
-use access::{Accessed, Answer, Bus, Cid, Request, Why};
+use access::{Accessed, Answer, Bus, Checks, Cid, Request, Why};
 use regions::places::{COMPARTMENTS, SEC};
 
 // What an access to a register needs of the guard.
@@ -94,26 +94,30 @@ fn locked(lock: Lock, p: Port) -> bool
     }
 }
 
-// The answer to an access to the register with this row.
+// The answer to an access to the register with this row. No lock stops a read.
 fn answer(bus: Bus, row: Row, p: Port, q: Request) -> Answer
     ensures { result ≡ answer_of true bus row p q }
 {
-    if q.offset % 4 != 0 {
-        return Answer::Rejected(Why::Misaligned);
-    }
+    let read = Checks {
+        present: true,
+        aligned: q.offset % 4 == 0,
+        inside: true,
+        fetchless: true,
+        known: true,
+        allowed: !row.guarded | (q.secure & q.privileged),
+        direction: row.readable,
+        unlocked: true,
+    };
     if !q.write {
-        return row.read(p.word, q);
+        return read.answer(words::masked(p.word, row.named));
     }
-    if !may_write(bus, row, p, q) {
-        return Answer::Refused(0);
-    }
-    if !row.writable {
-        return Answer::Rejected(Why::NoRegister);
-    }
-    if locked(row.lock, p) {
-        return Answer::Rejected(Why::Locked);
-    }
-    Answer::Done(0)
+    let write = Checks {
+        allowed: may_write(bus, row, p, q),
+        direction: row.writable,
+        unlocked: !locked(row.lock, p),
+        ..read
+    };
+    write.answer(0)
 }
 
 // The bits, but bit k only where it may be.
@@ -151,9 +155,9 @@ fn word_written(granule: u32, row: Row, p: Port, value: u32, secure: bool) -> u3
 }
 
 impl Row {
-    // The answer to a read of the register with this row, whose word is old, at an offset that is a multiple of 4.
-    fn read(self, old: u32, q: Request) -> Answer
-        ensures { result ≡ read_reached self old q }
+    // The answer to a read of the register with this row among a guard's words, at an offset that is a multiple of 4.
+    fn read(self, w: &[u32], q: Request) -> Answer
+        ensures { result ≡ read_reached self (get_or w.now self.place 0) q }
     {
         if !(!self.guarded | (q.secure & q.privileged)) {
             return Answer::Refused(0);
@@ -161,14 +165,7 @@ impl Row {
         if !self.readable {
             return Answer::Rejected(Why::NoRegister);
         }
-        Answer::Done(words::masked(old, self.named))
-    }
-
-    // The same, among a guard's words.
-    fn read_in(self, w: &[u32], q: Request) -> Answer
-        ensures { result ≡ read_reached self (get_or w.now self.place 0) q }
-    {
-        self.read(word_in(w, self.place), q)
+        Answer::Done(words::masked(word_in(w, self.place), self.named))
     }
 }
 
@@ -184,9 +181,9 @@ pub fn read(w: &[u32], shape: Shape, q: Request) -> Answer
         return Answer::Rejected(Why::NoRegister);
     };
     match reg {
-        Register::OfHead(head) => head.row().read_in(w, q),
-        Register::OfBase(x, field) => field.row(x).read_in(w, q),
-        Register::OfSub(x, s, field) => field.row(x, s).read_in(w, q),
+        Register::OfHead(head) => head.row().read(w, q),
+        Register::OfBase(x, field) => field.row(x).read(w, q),
+        Register::OfSub(x, s, field) => field.row(x, s).read(w, q),
     }
 }
 
