@@ -26,6 +26,9 @@ const WRITE: u32 = 128;
 
 const IAESR_NAMED: u32 = 0xb7;
 
+// The bytes of a word.
+const WORD: u32 = 4;
+
 // The shape of the guard, where the rules are to be asked of a memory access of a kind, or why it is rejected before. None stands for no
 // such guard, or no such master.
 pub fn memory_checked(guard: Option<Shape>, o: u32, width: u32, k: Kind) -> Result<Shape, Why>
@@ -37,11 +40,18 @@ pub fn memory_checked(guard: Option<Shape>, o: u32, width: u32, k: Kind) -> Resu
     if DEBUGGER.0 < k.cid.0 {
         return Err(Why::NoSuch);
     }
-    let aligned = match width {
-        1 => true,
-        2 => o % 2 == 0,
-        4 => o % 4 == 0,
-        _ => return Err(Why::NoSuch),
+    // A word is what is asked for most: one match over the three widths is three instructions more for it.
+    let aligned = if WORD <= width {
+        if width != WORD {
+            return Err(Why::NoSuch);
+        }
+        o % WORD == 0
+    } else {
+        match width {
+            1 => true,
+            2 => o % 2 == 0,
+            _ => return Err(Why::NoSuch),
+        }
     };
     if !aligned {
         return Err(Why::Misaligned);
