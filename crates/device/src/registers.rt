@@ -1,6 +1,4 @@
-ghost use Rattle.std.specs.Prelude.{false, ◌≡◌, Some};
-ghost use Rattle.iac.specs.Registers as iac_registers;
-ghost use Rattle.rifsc.specs.Registers as rifsc_registers;
+ghost use Rattle.std.specs.Prelude.{false, ◌≡◌, ◌%◌};
 ghost use Rattle.device.specs.Layout.{state_of};
 ghost use Rattle.device.specs.Step.{register_step};
 ghost use Rattle.device.specs.declared.event.Block.TheVariants.{Iac, Rifsc, Risaf};
@@ -11,7 +9,6 @@ use crate::guards::{load_words, store_word};
 use crate::layout::STATE_WORDS;
 use access::{Accessed, Answer, Flag, Request, Why};
 use iac::Seen;
-use rifsc::Register;
 use risaf::{CAEF, GuardNumber, IASR, Port};
 
 // The flags of a refused access to the controller's registers, and to those of the IAC.
@@ -23,11 +20,14 @@ const IAC_FLAG: Flag = Flag(138);
 // function over the three would take two closures in place of three lines. A Request says by a field whether it reads, so the reads require it.
 
 // A read of the controller's registers, which leaves the state.
-fn read_rifsc(state: &[u32; STATE_WORDS], reg: Register, q: Request) -> Answer
-    requires { (q.write ≡ false) × (rifsc_registers.register_at q.offset ≡ Some reg) }
+fn read_rifsc(state: &[u32; STATE_WORDS], q: Request) -> Answer
+    requires { (q.write ≡ false) × (q.offset % 4 ≡ 0) }
     ensures answer { result ≡ (register_step Rifsc q (state_of state.now)).answer }
     ensures next { state_of state.now ≡ (register_step Rifsc q (state_of state.now)).next }
 {
+    let Some(reg) = rifsc::register_at(q.offset) else {
+        return Answer::Rejected(Why::NoRegister);
+    };
     reg.row().read(stored(state, reg), q.offset)
 }
 
@@ -39,12 +39,12 @@ pub(crate) fn access_rifsc(state: &mut [u32; STATE_WORDS], q: Request) -> Answer
     if q.offset % 4 != 0 {
         return Answer::Rejected(Why::Misaligned);
     }
+    if !q.write {
+        return read_rifsc(state, q);
+    }
     let Some(reg) = rifsc::register_at(q.offset) else {
         return Answer::Rejected(Why::NoRegister);
     };
-    if !q.write {
-        return read_rifsc(state, reg, q);
-    }
     let row = reg.row();
     let Accessed { answer, next } = load_seen(state, reg, row).access(reg, row, q);
     match answer {
@@ -56,11 +56,14 @@ pub(crate) fn access_rifsc(state: &mut [u32; STATE_WORDS], q: Request) -> Answer
 }
 
 // A read of the registers of the IAC: refused, it raises a flag.
-fn read_iac(state: &mut [u32; STATE_WORDS], reg: iac::Register, q: Request) -> Answer
-    requires { (q.write ≡ false) × (iac_registers.register_at q.offset ≡ Some reg) }
+fn read_iac(state: &mut [u32; STATE_WORDS], q: Request) -> Answer
+    requires { (q.write ≡ false) × (q.offset % 4 ≡ 0) }
     ensures answer { result ≡ (register_step Iac q (state_of state.old)).answer }
     ensures next { state_of state.new ≡ (register_step Iac q (state_of state.old)).next }
 {
+    let Some(reg) = iac::register_at(q.offset) else {
+        return Answer::Rejected(Why::NoRegister);
+    };
     let answer = reg.row().read(load_word(state, reg), q);
     if let Answer::Refused(_) = answer {
         raise(state, IAC_FLAG);
@@ -76,12 +79,12 @@ pub(crate) fn access_iac(state: &mut [u32; STATE_WORDS], q: Request) -> Answer
     if q.offset % 4 != 0 {
         return Answer::Rejected(Why::Misaligned);
     }
+    if !q.write {
+        return read_iac(state, q);
+    }
     let Some(reg) = iac::register_at(q.offset) else {
         return Answer::Rejected(Why::NoRegister);
     };
-    if !q.write {
-        return read_iac(state, reg, q);
-    }
     let row = reg.row();
     let seen = Seen {
         word: load_word(state, reg),

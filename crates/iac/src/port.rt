@@ -5,7 +5,7 @@ ghost use Rattle.iac.specs.Port.{accessed, answer_of, read_answer, word_written}
 
 use crate::Register;
 use crate::registers::{Row, iisr};
-use access::{Accessed, Answer, Checks, PASSED, Request, Why};
+use access::{Accessed, Answer, Request, Why};
 
 // What an access to a register needs of the IAC, by value: the register's own word, for ICR the word of ISR.
 #[derive(Clone, Copy)]
@@ -58,13 +58,17 @@ impl Seen {
         if !q.write {
             return row.read(self.word, q);
         }
-        let write = Checks {
-            aligned: q.offset % 4 == 0,
-            allowed: row.admits(q),
-            direction: row.writable,
-            ..PASSED
-        };
-        write.answer(0)
+        // One test after the other: by Checks, made all together, a write takes half as many instructions again.
+        if q.offset % 4 != 0 {
+            return Answer::Rejected(Why::Misaligned);
+        }
+        if !row.admits(q) {
+            return Answer::Refused(0);
+        }
+        if !row.writable {
+            return Answer::Rejected(Why::NoRegister);
+        }
+        Answer::Done(0)
     }
 
     // An access to a register with this row. A write that is done leaves another word.

@@ -19,7 +19,7 @@ returns-in_default c =
 
 pub read_rifsc-requires : goal.read_rifsc-requires
 read_rifsc-requires c =
-    (not-true c.args.q.write c.if-not-q.true, sym c.register_at.ensures ∙ c.in-Some.is)
+    (not-true c.args.q.write c.if-not-q.true, c.if-q-ne0.false)
 
 pub returns-then-not-q : goal.returns-then-not-q
 returns-then-not-q c =
