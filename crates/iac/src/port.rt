@@ -7,7 +7,8 @@ use crate::Register;
 use crate::registers::{Row, iisr};
 use access::{Accessed, Answer, Request, Why};
 
-// What an access to a register needs of the IAC, by value: the register's own word, for ICR the word of ISR.
+// What an access to a register needs of the IAC, by value: the register's own word, for ICR the word of ISR. A struct of one word,
+// since docs/PROMISES.md promises the method `access` of it.
 #[derive(Clone, Copy)]
 pub struct Seen {
     pub word: u32,

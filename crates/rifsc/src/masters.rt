@@ -28,7 +28,8 @@ impl MasterNumber {
         self.0 < MASTERS as u32
     }
 
-    // The peripheral that guards the master. Master 0 has none: 0, as for a number that is no master's.
+    // The peripheral that guards the master. Master 0 has none: 0, as for a number that is no master's. No Option: attributes_of reads
+    // peripheral 0's SEC for a number that is no master's (docs/DECISIONS.md, Q-2), and that definition may not change.
     pub fn guarding(self) -> PeripheralNumber
         ensures { result ≡ guarding_of self }
     {
