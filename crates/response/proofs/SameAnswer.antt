@@ -5,7 +5,6 @@ use mathlib.Core.List.{List}
 use mathlib.Core.Path.{◌≡◌}
 use Prim.Native.Nat.{ℕ, ◌^◌, ◌<◌}
 use lib.Dec.{lit<}
-use Rattle.std.specs.Prelude.{Some, None}
 use Rattle.words.specs.Bit.{bit, masked, united}
 use Rattle.words.proofs.Laws.{word_lt}
 use Rattle.access.specs.Answer.{number_of, value_of}
@@ -18,8 +17,12 @@ use Rattle.access.specs.declared.answer.Why.TheVariants.{WrongLength}
 use Rattle.access.specs.declared.checks.Checks.{Checks}
 use Rattle.access.specs.declared.kind.Kind.{Kind}
 use Rattle.access.specs.declared.request.Request.{Request}
-use Rattle.rifsc.specs.Port.{read_of as rifsc-read_of, answer_of as rifsc-answer_of, stepped as rifsc-stepped}
-use Rattle.iac.specs.Port.{read_of as iac-read_of, answer_of as iac-answer_of, stepped as iac-stepped}
+use Rattle.rifsc.specs.Port.{read_of as rifsc-read_of, answer_of as rifsc-answer_of, stepped_at as rifsc-stepped_at}
+use Rattle.rifsc.specs.Registers.{register_at as rifsc-register_at}
+use Rattle.rifsc.specs.declared.registers.Register.{Register as RifscRegister}
+use Rattle.iac.specs.Port.{read_of as iac-read_of, answer_of as iac-answer_of, stepped_at as iac-stepped_at}
+use Rattle.iac.specs.Registers.{register_at as iac-register_at}
+use Rattle.iac.specs.declared.registers.Register.{Register as IacRegister}
 use Rattle.risaf.specs.Port.{read_of, answer_of, accessed, stepped, stepped_at}
 use Rattle.risaf.specs.Guards.{is_guard, shape_of}
 use Rattle.risaf.specs.Rows.{row_at}
@@ -93,9 +96,17 @@ unfolding united
 united-few x y = word_lt 32 (λ i. bit x i || bit y i)
 
 register-few : (b : Block) (q : Request) (s : State) → value_of (register_step b q s).answer < 2 ^ 32
-unfolding register_step rifsc-stepped rifsc-answer_of rifsc-read_of iac-stepped iac-answer_of iac-read_of stepped stepped_at accessed answer_of read_of
-register-few Rifsc q s = answered-few _ _ 0 (gives-few q _ (united-few _ _)) (lit< tt)
-register-few Iac q s = answered-few _ _ 0 (gives-few q _ (united-few _ _)) (lit< tt)
+unfolding register_step rifsc-stepped_at rifsc-answer_of rifsc-read_of iac-stepped_at iac-answer_of iac-read_of stepped stepped_at accessed answer_of read_of
+register-few Rifsc q s = at (rifsc-register_at q.offset)
+  where
+    at : (o : Option RifscRegister) → value_of (rifsc-stepped_at o s.rifsc q).answer < 2 ^ 32
+    at None = answered-few _ 0 0 (lit< tt) (lit< tt)
+    at (Some reg) = answered-few _ _ 0 (gives-few q _ (united-few _ _)) (lit< tt)
+register-few Iac q s = at (iac-register_at q.offset)
+  where
+    at : (o : Option IacRegister) → value_of (iac-stepped_at o s.iac q).answer < 2 ^ 32
+    at None = answered-few _ 0 0 (lit< tt) (lit< tt)
+    at (Some reg) = answered-few _ _ 0 (gives-few q _ (united-few _ _)) (lit< tt)
 register-few (Risaf n) q s = go (row_at (shape_of n.0).regions q.offset)
   where
     go : (r : Option Row) → value_of (stepped_at (is_guard n.0) (shape_of n.0) r (guard_of s n.0) q).answer < 2 ^ 32
