@@ -1,19 +1,12 @@
 -- A line, with and without room.
 use mathlib.Core.List.{List}
-use mathlib.Core.Path.{◌≡◌, refl, sym, ◌∙◌}
+use mathlib.Core.Path.{◌≡◌}
 use Prim.Native.Nat.{ℕ, ◌+◌, ◌≤◌, ◌<◌}
 use borrow.Author.Tests.{le-leb, lt-leb}
 use lib.ListN.{length}
-use Rattle.std.specs.Prelude.{Option, Some, None}
-use Rattle.device.specs.Applied.{applied_answer, applied_state}
-use Rattle.device.specs.declared.event.Event.{Event}
-use Rattle.risaf.specs.declared.guards.GuardNumber.{GuardNumber}
 use Rattle.script.specs.Command.{command_of}
 use Rattle.print.specs.Parts.{Wrote}
-use Rattle.print.specs.Print.{bad_line}
-use Rattle.script.specs.declared.command.Command.{Command}
-use Rattle.script.specs.declared.command.Command.TheVariants.{Event as AnEvent, Map}
-use Rattle.response.specs.Response.{answer_text, bytes_after, map_text, most, left_by, place_after, state_after, text_of}
+use Rattle.response.specs.Response.{bytes_after, most, left_by, place_after, state_after, text_of}
 
 module _ (line : List ℕ) (number : ℕ) (m out : List ℕ) (at : ℕ) where
   pub no_room : length out < at + most

@@ -12,6 +12,8 @@ use map::used_part;
 use risaf::GuardNumber;
 use script::{print_answer, print_end, print_guard, print_span};
 
+// `out` and `at` stay two parameters, with the room they need: `print` takes them so, and each function here writes but once or twice.
+
 // The line of an answer.
 pub(crate) fn put_answer(out: &mut [u8], at: usize, answer: Answer) -> usize
     requires { at + most ≤ length out.old }
