@@ -1,6 +1,6 @@
 use Rattle.std.specs.Prelude.{Option}
 use borrow.Author.Rules.{rules}
-use mathlib.Core.Path.{ap, sym, ◌∙◌}
+use mathlib.Core.Path.{ap, ◌∙◌}
 use Prim.Native.Nat.{◌<◌}
 use lib.ListN.{length}
 use Rattle.risaf.specs.Guards.{guard_count}
