@@ -36,7 +36,7 @@ use Rattle.access.specs.declared.accessed.Accessed.{Accessed}
 use Rattle.risaf.specs.declared.port.Port.{Port}
 use Rattle.risaf.specs.declared.rows.Row.{Row}
 use Rattle.risaf.proofs.MemoryAnswer.{ruled, onward, answer-onward, checked-own, answer-in}
-use Rattle.risaf.proofs.PortLaws.{read_is, read_leaves}
+use Rattle.risaf.proofs.PortLaws.{read_stepped, read_leaves}
 use Rattle.risaf.proofs.Shapes.{found, found-as, regions-most}
 use Rattle.device.specs.State.{State, guard_at, guard_of, with_guards, with_guard_at, with_guard, flagged}
 use Rattle.device.specs.Step.{Outcome, settled, register_step, memory_step}
@@ -128,7 +128,7 @@ module _ (s : State) (n : GuardNumber) (q : Request) (w : q.write ≡ false) {sh
 
   reads : register_step (Risaf n) q s ≡ settled a shape.flag s (with_guard_at s shape.place (left a read read caught))
   reads =
-      let e : (stepped true shape read q).answer ≡ a = read_is shape read q w ∙ sym ea in
+      let e : (stepped true shape read q).answer ≡ a = read_stepped shape read q w ∙ sym ea in
       guard-step s n q es
       ∙ ap (λ (g : Guard). settled (stepped true shape read q).answer shape.flag s (with_guard_at s shape.place g)) (read_leaves shape read q w)
       ∙ ap (λ (b : Answer). settled b shape.flag s (with_guard_at s shape.place (left b read read caught))) e

@@ -12,7 +12,7 @@ use lib.Seq.{get_or-append-add, get_or-drop}
 use Rattle.words.specs.Bit.{bit}
 use Rattle.words.specs.Six.{bit_words}
 use Rattle.words.proofs.Laws.{bit-zero}
-use Rattle.words.proofs.Alike.{Within, within-zero}
+use Rattle.words.proofs.Alike.{Within}
 use Rattle.regions.specs.Words.{most_regions, base_words, subregion_words, region_words, start_at, end_at, cidcfgr_at, nest_at, base, sub}
 use Rattle.rifsc.specs.Contents as rifsc-contents
 use Rattle.rifsc.specs.Masters.{masters}

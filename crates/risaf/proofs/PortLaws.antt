@@ -1,5 +1,5 @@
 -- The words that a write leaves, as the code makes them, and the answer to a read.
-use Rattle.std.specs.Prelude.{Option, Some, None}
+use Rattle.std.specs.Prelude.{Option, Some, None, List}
 use mathlib.Core.Bool.{Bool, true, false, not, ◌&&◌, ◌||◌, cond, and-true, and-false}
 use mathlib.Core.Path.{◌≡◌, refl, sym, ap, ◌∙◌}
 use Prim.Native.Nat.{ℕ, ◌^◌, ◌%◌, ◌<◌}
@@ -14,7 +14,7 @@ use Rattle.access.specs.declared.answer.Answer.{Answer}
 use Rattle.access.specs.declared.answer.Answer.TheVariants.{Done, Refused, Rejected}
 use Rattle.access.specs.declared.answer.Why.TheVariants.{Misaligned, NoRegister}
 use Rattle.access.specs.declared.request.Request.{Request}
-use Rattle.risaf.specs.Port.{allowed_of, answer_of, bit_if, checks_of, checks_none, port_in, read_answer, read_at, read_reached, subcfgr_written, refused_port, accessed, stepped, stepped_at}
+use Rattle.risaf.specs.Port.{allowed_of, answer_at, answer_of, bit_if, checks_of, checks_none, port_in, read_answer, read_at, read_reached, subcfgr_written, refused_port, accessed, stepped, stepped_at}
 use Rattle.risaf.specs.Contents.{iasr_at, guard_words, with_word}
 use Rattle.risaf.specs.declared.contents.Guard.{Guard}
 use Rattle.risaf.specs.Rows.{row_at}
@@ -52,14 +52,23 @@ cfgr-is named p value secure = cfgr-by 32 named p.word value 1 sec_bit p.glock s
 -- ---- a read
 
 -- it is what an access gives that is no write
-pub read_is : (shape : Shape) (g : Guard) (q : Request) → q.write ≡ false
-    → (stepped true shape g q).answer ≡ read_answer shape (guard_words g) q
-unfolding stepped stepped_at accessed answer_of checks_of checks_none allowed_of answered_with reached_with port_in read_answer read_at read_reached
-read_is shape g q h = go (row_at shape.regions q.offset)
+pub read_is : (shape : Shape) (w : List ℕ) (q : Request) → q.write ≡ false
+    → answer_at true shape.bus (row_at shape.regions q.offset) w q ≡ read_answer shape w q
+unfolding answer_of checks_of checks_none allowed_of answered_with reached_with port_in read_answer read_at read_reached
+read_is shape w q h = go (row_at shape.regions q.offset)
   where
-    go : (r : Option Row) → (stepped_at true shape r g q).answer ≡ unless (eqb (q.offset % 4) 0) (Rejected Misaligned) (read_at r (guard_words g) q)
+    go : (r : Option Row) → answer_at true shape.bus r w q ≡ unless (eqb (q.offset % 4) 0) (Rejected Misaligned) (read_at r w q)
     go None = refl
     go (Some row) = rw h refl
+
+pub read_stepped : (shape : Shape) (g : Guard) (q : Request) → q.write ≡ false
+    → (stepped true shape g q).answer ≡ read_answer shape (guard_words g) q
+unfolding stepped stepped_at accessed
+read_stepped shape g q h = go (row_at shape.regions q.offset) ∙ read_is shape (guard_words g) q h
+  where
+    go : (r : Option Row) → (stepped_at true shape r g q).answer ≡ answer_at true shape.bus r (guard_words g) q
+    go None = refl
+    go (Some row) = refl
 
 -- and it leaves all as it was, but CAEF where it is refused
 pub read_leaves : (shape : Shape) (g : Guard) (q : Request) → q.write ≡ false

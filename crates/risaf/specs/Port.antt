@@ -132,6 +132,11 @@ checks_none there q =
 unfoldable pub answer_of : Bool → Bus → Row → Port → Request → Answer
 answer_of there bus row p q = answered (checks_of there bus row p q) (gives q (read_of row p.word))
 
+-- by the row of the register, if there is one, among a guard's words
+abbrev pub answer_at : Bool → Bus → Option Row → List ℕ → Request → Answer
+answer_at there bus None w q = answered (checks_none there q) 0
+answer_at there bus (Some row) w q = answer_of there bus row (port_in w row) q
+
 -- ---- the answer to a read, among a guard's words: what code goes by
 
 -- of the register with this row, at an offset that is a multiple of 4
