@@ -59,7 +59,7 @@ impl Seen {
         if !q.write {
             return row.read(self.word, q);
         }
-        // One test after the other: by Checks, made all together, a write takes half as many instructions again.
+        // One test after the other: by Checks, made all together, a write takes a quarter more instructions.
         if q.offset % 4 != 0 {
             return Answer::Rejected(Why::Misaligned);
         }
