@@ -10,13 +10,13 @@ use Rattle.words.specs.Bit.{one, masked, less, merged, united, with_bit}
 use Rattle.access.specs.Checks.{answered_with, reached_with}
 use Rattle.rifsc.specs.Registers.{register_at as rifsc-register_at, ppsr, row_of as rifsc-row_of}
 use Rattle.rifsc.specs.Contents.{stored as rifsc-stored, with_stored as rifsc-with_stored, seen as rifsc-seen, reset as rifsc-reset}
-use Rattle.rifsc.specs.Port.{read_of as rifsc-read_of, takes, word_written as rifsc-word_written, checks_of as rifsc-checks_of, answer_of as rifsc-answer_of, written as rifsc-written, stepped as rifsc-stepped}
+use Rattle.rifsc.specs.Port.{read_of as rifsc-read_of, takes, word_written as rifsc-word_written, checks_of as rifsc-checks_of, answer_of as rifsc-answer_of, written as rifsc-written, stepped_at as rifsc-stepped_at}
 use Rattle.rifsc.specs.Masters.{is_master, guarding_of, attributes_of, carried}
 use Rattle.rifsc.specs.Peripherals.{exists, filter_of, grants}
 use Rattle.iac.specs.Registers.{register_at as iac-register_at, iisr, row_of as iac-row_of}
 use Rattle.iac.specs.Contents.{stored as iac-stored, with_word as iac-with_word, reset as iac-reset}
 use Rattle.iac.specs.Held.{held_line, held_count, fresh_of, fresh_at, fresh, changes_at, changed, with_count, held}
-use Rattle.iac.specs.Port.{read_of as iac-read_of, word_written as iac-word_written, checks_of as iac-checks_of, answer_of as iac-answer_of, written as iac-written, stepped as iac-stepped}
+use Rattle.iac.specs.Port.{read_of as iac-read_of, word_written as iac-word_written, checks_of as iac-checks_of, answer_of as iac-answer_of, written as iac-written, stepped_at as iac-stepped_at}
 use Rattle.iac.specs.Flags.{flag_set, raise}
 use Rattle.risaf.specs.Guards.{shape_in, shape_at, shape_of}
 use Rattle.risaf.specs.Registers.{region_at, sub_register, region_register, register_at}
@@ -97,7 +97,7 @@ hold (x ∷ xs) h = let p = both _ _ h in (holds x reset_state p.0, hold xs p.1)
 -- ---- the examples, and the wrong readings
 
 passed : (pass worked ≡ true) × (pass readings ≡ true)
-unfolding pass passes same swept worked readings flat swept_map sweep_from next_of bounds_of join pairs_of rights_of rights_word masked less merged united with_bit answered_with reached_with rifsc-register_at ppsr rifsc-row_of rifsc-stored rifsc-with_stored rifsc-seen rifsc-reset rifsc-read_of takes rifsc-word_written rifsc-checks_of rifsc-answer_of rifsc-written rifsc-stepped iac-register_at iisr iac-row_of iac-stored iac-with_word fresh_of fresh_at fresh changes_at changed with_count held iac-reset iac-read_of iac-checks_of iac-answer_of iac-word_written iac-written iac-stepped flag_set raise shape_in shape_at shape_of region_at sub_register region_register register_at of_head of_base of_sub row_of row_at with_word reset port_in read_of delegated allowed_of subcfgr_written word_in checks_of checks_none answer_of accessed stepped stepped_at decided tests memory_checks memory_answer recorded_fault faulted memory_stepped guard_of with_guard reset_state register_step peripheral_step exists filter_of grants is_master guarding_of attributes_of carried memory_step step
+unfolding pass passes same swept worked readings flat swept_map sweep_from next_of bounds_of join pairs_of rights_of rights_word masked less merged united with_bit answered_with reached_with rifsc-register_at ppsr rifsc-row_of rifsc-stored rifsc-with_stored rifsc-seen rifsc-reset rifsc-read_of takes rifsc-word_written rifsc-checks_of rifsc-answer_of rifsc-written rifsc-stepped_at iac-register_at iisr iac-row_of iac-stored iac-with_word fresh_of fresh_at fresh changes_at changed with_count held iac-reset iac-read_of iac-checks_of iac-answer_of iac-word_written iac-written iac-stepped_at flag_set raise shape_in shape_at shape_of region_at sub_register region_register register_at of_head of_base of_sub row_of row_at with_word reset port_in read_of delegated allowed_of subcfgr_written word_in checks_of checks_none answer_of accessed stepped stepped_at decided tests memory_checks memory_answer recorded_fault faulted memory_stepped guard_of with_guard reset_state register_step peripheral_step exists filter_of grants is_master guarding_of attributes_of carried memory_step step
 passed = (refl, refl)
 
 pub all_hold : AllHold worked
