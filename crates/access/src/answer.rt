@@ -13,13 +13,16 @@ pub enum Why {
     WrongLength,
 }
 
-// The answer to an event, in the three ways in which it can end: done, refused for want of rights, rejected.
+// The answer to an event, in the three ways in which it can end: done, refused for want of rights, rejected. No Result: document 01's column
+// "left" has three cases, and the theorems on refusals go by them.
 #[derive(Clone, Copy)]
 pub enum Answer {
     Done(u32),
     Refused(u32),
     Rejected(Why),
 }
+
+// Numbers by methods of that name, not by From: an answer has two, its own and the encoded one, and docs/PROMISES.md names each.
 
 impl Why {
     fn number(self) -> u64

@@ -5,7 +5,8 @@ ghost use Rattle.access.specs.Checks.{answered, reached};
 
 use crate::{Answer, Why};
 
-// What is tested of an event once the lent memory has its length. A test that a kind of event does not have is passed.
+// What is tested of an event once the lent memory has its length. A test that a kind of event does not have is passed. They are answers
+// beside one another, since the order in which they count is promised once, of `answer` (docs/PROMISES.md).
 #[derive(Clone, Copy)]
 pub struct Checks {
     // The block, guard, master, peripheral, CID and width are ones there are.

@@ -26,6 +26,7 @@ fn one(state: &mut [u32], answers: &mut [u64], i: usize, a: MemoryAccess)
 }
 
 // A batch of memory accesses, one after the other: answer i is to access i. Where lent memory is of the wrong length none of them is done.
+// The index goes over both lists: a zip with `iter_mut` promises nothing of what is written.
 pub fn batch(state: &mut [u32], list: &[MemoryAccess], answers: &mut [u64]) -> Answer
     ensures answer { result ≡ batched state.old list.now answers.old }
     ensures next { state.new ≡ batch_state state.old list.now answers.old }

@@ -133,14 +133,10 @@ pub extern "C" fn rif_master(
     device::master_encoded(state, access)
 }
 
-// The interrupt line. Where the length is known the answer is, and needs no look to be encoded.
+// The interrupt line.
 #[unsafe(no_mangle)]
 pub extern "C" fn rif_line(state: &[u32]) -> u64
     ensures { result ≡ encoded_of (line_answer state.now) }
 {
-    if state.len() == device::STATE_WORDS {
-        device::interrupt_line(state).encoded()
-    } else {
-        Answer::Rejected(Why::WrongLength).encoded()
-    }
+    device::interrupt_line(state).encoded()
 }

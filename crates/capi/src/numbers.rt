@@ -1,4 +1,4 @@
-// What a number of a call stands for.
+// What a number of a call stands for. No TryFrom: block and operation are types of `device`, which has no numbers for them.
 #![tactic(auto, unfolding(crate::specs::Numbers::block_numbered, crate::specs::Numbers::operation_numbered))]
 
 ghost use Rattle.std.specs.Prelude.{◌≡◌};

@@ -37,7 +37,8 @@ fn continues(lent: &[u64], count: usize, start: u64, old: u64, new: u64) -> bool
 }
 
 // One more span behind the first count rows of lent memory, and how many rows there then are. Where its words are equal it is no
-// row; where it goes on the last row that row ends with it; else it is a row of its own.
+// row; where it goes on the last row that row ends with it; else it is a row of its own. Not one function with `spans::put`: that
+// one tests the room, one word and no gap, and writes another row, so both would be longer.
 pub(crate) fn put(lent: &mut [u64], count: usize, start: u64, end: u64, old: u64, new: u64) -> usize
     requires { diff_row_numbers * count + diff_row_numbers ≤ length lent.old }
     ensures value { result ≡ count_with lent.old count start old new }

@@ -43,7 +43,7 @@ fn sweep(bus: Bus, w: &[u32], n: usize, window: u64, lent: &mut [u64]) -> usize
     count
 }
 
-// The answer to a call that fills lent memory.
+// The answer to a call that fills lent memory. No From: both types are of other crates.
 pub fn answer(filled: Result<usize, Why>) -> Answer
     ensures { result ≡ answer_of filled }
 {

@@ -44,8 +44,8 @@ fn end_place(map: &[u64], from: usize, offset: u64) -> usize
     map.len()
 }
 
-// Where in the map the first row whose start and end enclose the offset begins, or the map's length where there is none. Each turn
-// goes on from where the one before found an end, so no `for` counts them.
+// Where in the map the first row whose start and end enclose the offset begins, or the map's length where there is none: its definition,
+// which docs/PROMISES.md names, has no Option. Each turn goes on from where the one before found an end, so no `for` counts them.
 pub fn row_place(map: &[u64], offset: u64) -> usize
     ensures { result ≡ row_place map.now offset }
 {
@@ -71,7 +71,7 @@ pub fn lookup(map: &[u64], offset: u64) -> &[u64]
     &map[..0]
 }
 
-// One more span behind the first count rows of lent memory, and how many rows there then are. The last row goes on to the span's end
+// One more span behind the first count rows of lent memory (C's own: no Vec), and how many rows there then are. The last row goes on to the span's end
 // where its rights are the same, else the span is a row of its own. Without room for a row more nothing changes.
 pub fn put(lent: &mut [u64], count: usize, start: u64, end: u64, rights: u64) -> usize
     ensures value { result ≡ put_count lent.old count rights }
