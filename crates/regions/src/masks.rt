@@ -59,7 +59,8 @@ pub(crate) fn none_gathered() -> Masks
     }
 }
 
-// The region or subregion at p is enabled and covers the offset.
+// The region or subregion at p is enabled and covers the offset. Not by `reach_of`: what that takes and gives besides, a boundary, an access
+// has no use for.
 pub(crate) fn covers(w: &[u32], p: usize, o: u32) -> bool
     requires { p + end_at < length w.now }
     ensures { result ≡ covers w.now p o }
