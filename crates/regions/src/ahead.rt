@@ -1,5 +1,5 @@
 ghost use Rattle.std.specs.Prelude.{◌≡◌, ◌+◌, ◌<◌, length};
-ghost use Rattle.regions.specs.Ahead.{lesser, reach_of};
+ghost use Rattle.regions.specs.Ahead.{reach_of};
 ghost use Rattle.regions.specs.Words.{end_at};
 
 use crate::places::{ENABLE, END, START};
@@ -8,20 +8,6 @@ use crate::places::{ENABLE, END, START};
 pub(crate) enum Reach {
     Inside(u64),
     Outside(u64),
-}
-
-// The nearer of START and to.
-pub(crate) fn start_ahead(start: u32, to: u64) -> u64
-    ensures { result ≡ lesser start to }
-{
-    u64::from(start).min(to)
-}
-
-// The nearer of the offset past END and to.
-pub(crate) fn end_ahead(end: u32, to: u64) -> u64
-    ensures { result ≡ lesser (end + 1) to }
-{
-    (u64::from(end) + 1).min(to)
 }
 
 // To the region or subregion at p, up to `to`: START alone is ahead before it, nothing past END or where it is not enabled.
@@ -33,10 +19,10 @@ pub(crate) fn reach_of(w: &[u32], p: usize, o: u32, to: u64) -> Reach
         return Reach::Outside(to);
     }
     if o < w[p + START] {
-        return Reach::Outside(start_ahead(w[p + START], to));
+        return Reach::Outside(u64::from(w[p + START]).min(to));
     }
     if w[p + END] < o {
         return Reach::Outside(to);
     }
-    Reach::Inside(end_ahead(w[p + END], to))
+    Reach::Inside((u64::from(w[p + END]) + 1).min(to))
 }
