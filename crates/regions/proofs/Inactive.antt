@@ -9,11 +9,13 @@ use native.Mathlib.Omega.{arith}
 use lib.Dec.{eqb}
 use borrow.Author.Tests.{eq-eqb, ne_eqb, lt-ltb, le-ltb}
 use Rattle.regions.specs.Active.{with_region, none_active, active}
-use Rattle.regions.specs.Ahead.{lesser}
+use Rattle.regions.specs.Ahead.{lesser, reach_of}
 use Rattle.regions.specs.Masks.{Passed, some_enabled}
 use Rattle.regions.specs.Rules.{covers}
 use Rattle.regions.specs.Words.{base, most_regions}
 use Rattle.regions.specs.declared.active.Active.{Active}
+use Rattle.regions.specs.declared.ahead.Reach.{Reach}
+use Rattle.regions.specs.declared.ahead.Reach.TheVariants.{Inside, Outside}
 use Rattle.regions.proofs.Enabled.{none_of}
 use Rattle.regions.proofs.Gathered.{pass-none, pass-more}
 use Rattle.regions.proofs.Lies.{is-lesser, on, first, last, Lies, off, before, past, inside, lies, ahead-off, ahead_before, ahead_past}
@@ -38,6 +40,21 @@ module _ (w : List ℕ) (x o : ℕ) (a : Active) where
       → record { low = cond (eqb a.high 0) x a.low; high = x + 1; to = a.to } ≡ with_region w x o a
   unfolding with_region
   with-inside e l g = simp (e, le-ltb o (first w (base x)) l, le-ltb (last w (base x)) o g)
+
+  -- the same, by what the code is told
+  abbrev pub With : Reach → Type 0
+  With (Inside t) = record { low = cond (eqb a.high 0) x a.low; high = x + 1; to = a.to } ≡ with_region w x o a
+  With (Outside t) = record { low = a.low; high = a.high; to = t } ≡ with_region w x o a
+
+  with-reach : Lies w (base x) o → With (reach_of w (base x) o a.to)
+  unfolding reach_of
+  with-reach (off e) = simp e (with-off e)
+  with-reach (before e l) = simp (e, lt-ltb o (first w (base x)) l) (with-before e l)
+  with-reach (past e l g) = simp (e, le-ltb o (first w (base x)) l, lt-ltb (last w (base x)) o g) (with-past e l g)
+  with-reach (inside e l g) = simp (e, le-ltb o (first w (base x)) l, le-ltb (last w (base x)) o g) (with-inside e l g)
+
+  pub with-told : {r : Reach} → r ≡ reach_of w (base x) o a.to → With r
+  with-told e = subst With (sym e) (with-reach (lies w (base x) o))
 
 -- ---- all of them
 

@@ -2,7 +2,7 @@
 use mathlib.Core.Bool.{Bool, true, false}
 use mathlib.Core.List.{List}
 use mathlib.Core.Logic.{◌⊎◌, inl, inr}
-use mathlib.Core.Path.{◌≡◌, refl, sym, ap, ◌∙◌}
+use mathlib.Core.Path.{◌≡◌, refl, sym, ap, subst, ◌∙◌}
 use Prim.Native.Nat.{ℕ, ◌+◌, ◌≤◌, ◌<◌}
 use native.Mathlib.Decide.{dec_lt}
 use native.Mathlib.Numerals.{add-one}
@@ -10,9 +10,11 @@ use native.Mathlib.Omega.{arith}
 use lib.ListN.{get_or}
 use borrow.Author.Tests.{lt-ltb, le-ltb, lt-leb, le-leb}
 use Rattle.words.specs.Bit.{bit}
-use Rattle.regions.specs.Ahead.{lesser, region_ahead, base_ahead, ahead}
+use Rattle.regions.specs.Ahead.{lesser, reach_of, region_ahead, base_ahead, ahead}
 use Rattle.regions.specs.Words.{start_at, end_at, enable_bit}
 use Rattle.regions.specs.Rules.{covers}
+use Rattle.regions.specs.declared.ahead.Reach.{Reach}
+use Rattle.regions.specs.declared.ahead.Reach.TheVariants.{Inside, Outside}
 
 -- ---- the lesser of two
 
@@ -71,6 +73,21 @@ module _ (w : List ℕ) (p : ℕ) where
     pub ahead-inside : on ≡ true → first ≤ o → o ≤ last
         → (further (lesser (last + 1) to) ≡ region_ahead w p o further to) × (covers w p o ≡ true)
     ahead-inside e a b = simp (e, le-ltb o first a, le-leb first o a, le-ltb last o b, le-leb o last b) (refl, refl)
+
+    -- the same, by what the code is told
+    abbrev pub Told : Reach → Type 0
+    Told (Inside t) = (further t ≡ region_ahead w p o further to) × (covers w p o ≡ true)
+    Told (Outside t) = (t ≡ region_ahead w p o further to) × (covers w p o ≡ false)
+
+    told-reach : Lies o → Told (reach_of w p o to)
+    unfolding reach_of
+    told-reach (off e) = simp e (refl, refl)
+    told-reach (before e a) = simp (e, lt-ltb o first a, lt-leb first o a) (refl, refl)
+    told-reach (past e a b) = simp (e, le-ltb o first a, le-leb first o a, lt-ltb last o b, lt-leb o last b) (refl, refl)
+    told-reach (inside e a b) = simp (e, le-ltb o first a, le-leb first o a, le-ltb last o b, le-leb o last b) (refl, refl)
+
+    pub told : {r : Reach} → r ≡ reach_of w p o to → Told r
+    told e = subst Told (sym e) (told-reach (lies o))
 
 -- ---- a base region, by the code's calls
 

@@ -4,6 +4,8 @@ use Rattle.std.specs.Prelude.{cond, List, ℕ, zero, suc, ◌+◌, ltb, get_or}
 use Rattle.words.specs.Bit.{bit}
 use Rattle.regions.specs.Words.{base, sub, start_at, end_at, enable_bit}
 use Rattle.regions.specs.Lent.{enough}
+use Rattle.regions.specs.declared.ahead.Reach.{Reach}
+use Rattle.regions.specs.declared.ahead.Reach.TheVariants.{Inside, Outside}
 
 -- the lesser of two
 abbrev pub lesser : ℕ → ℕ → ℕ
@@ -19,6 +21,15 @@ region_ahead w p o inside to =
     (cond (ltb (get_or w (p + end_at) 0) o) to (inside (lesser (get_or w (p + end_at) 0 + 1) to))))
     to
 
+-- whether the offset lies in that, and up to where those that follow lie as it does, what is further inside left out
+unfoldable pub reach_of : List ℕ → ℕ → ℕ → ℕ → Reach
+reach_of w p o to =
+    cond (bit (get_or w p 0) enable_bit)
+    (cond (ltb o (get_or w (p + start_at) 0))
+    (Outside (lesser (get_or w (p + start_at) 0) to))
+    (cond (ltb (get_or w (p + end_at) 0) o) (Outside to) (Inside (lesser (get_or w (p + end_at) 0 + 1) to))))
+    (Outside to)
+
 -- of a subregion: nothing is inside it
 unfoldable pub sub_ahead : List ℕ → ℕ → ℕ → ℕ → ℕ
 sub_ahead w p o to = region_ahead w p o (λ t. t) to
@@ -29,10 +40,6 @@ subs_ahead w x o to = sub_ahead w (sub x 1) o (sub_ahead w (sub x 0) o to)
 
 unfoldable pub base_ahead : List ℕ → ℕ → ℕ → ℕ → ℕ
 base_ahead w x o to = region_ahead w (base x) o (subs_ahead w x o) to
-
--- of base region x where it covers
-abbrev pub inside_ahead : List ℕ → ℕ → ℕ → ℕ → ℕ
-inside_ahead w x o to = subs_ahead w x o (lesser (get_or w (base x + end_at) 0 + 1) to)
 
 -- of n base regions
 unfoldable pub ahead : List ℕ → ℕ → ℕ → ℕ → ℕ

@@ -2,10 +2,10 @@ ghost use Rattle.std.specs.Prelude.{◌≡◌, ◌+◌, ◌≤◌, length};
 ghost use Rattle.regions.specs.Active.{active_in, with_region};
 ghost use Rattle.regions.specs.Words.{base, region_words};
 
-use crate::ahead::start_ahead;
+use crate::ahead::{Reach, reach_of};
 use crate::lent::enough;
 use crate::masks::none_enabled;
-use crate::places::{ENABLE, END, MOST_REGIONS, REGION_WORDS, START};
+use crate::places::{MOST_REGIONS, REGION_WORDS};
 
 // The base regions that a sweep has to look at from an offset on, up to `to`: no other covers there.
 #[derive(Clone, Copy)]
@@ -21,24 +21,13 @@ fn with_region(w: &[u32], x: usize, o: u32, a: Active) -> Active
     requires { base x + region_words ≤ length w.now }
     ensures { result ≡ with_region w.now x o a }
 {
-    let b = REGION_WORDS * x;
-    if (w[b] >> ENABLE) % 2 != 1 {
-        return a;
-    }
-    if o < w[b + START] {
-        return Active {
-            to: start_ahead(w[b + START], a.to),
+    match reach_of(w, REGION_WORDS * x, o, a.to) {
+        Reach::Outside(to) => Active { to, ..a },
+        Reach::Inside(_) => Active {
+            low: if a.high == 0 { x } else { a.low },
+            high: x + 1,
             ..a
-        };
-    }
-    if w[b + END] < o {
-        return a;
-    }
-    let low = if a.high == 0 { x } else { a.low };
-    Active {
-        low,
-        high: x + 1,
-        ..a
+        },
     }
 }
 

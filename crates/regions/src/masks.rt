@@ -59,7 +59,8 @@ pub(crate) fn none_gathered() -> Masks
     }
 }
 
-// The region or subregion at p is enabled and covers the offset.
+// The region or subregion at p is enabled and covers the offset. Not by `reach_of`: what that takes and gives besides, a boundary, an access
+// has no use for.
 pub(crate) fn covers(w: &[u32], p: usize, o: u32) -> bool
     requires { p + end_at < length w.now }
     ensures { result ≡ covers w.now p o }
@@ -136,7 +137,9 @@ pub(crate) fn with_sub(base: u32, sub: u32, opens: u32, m: Masks) -> Masks
     }
 }
 
-// With what subregion s of base region x, which covers, says.
+// With what subregion s of base region x, which covers, says. Region x is w and x here, as in the definitions. As a `&[u32; REGION_WORDS]`
+// of `as_chunks` it would ask for no room, but all five contracts that ask would speak of region 0 of a part, each by a law that this is
+// region x of w.
 fn sub_gathered(
     w: &[u32],
     x: usize,

@@ -1,11 +1,11 @@
 ghost use Rattle.std.specs.Prelude.{false, ◌≡◌, ◌+◌, ◌≤◌, ◌<◌, length};
-ghost use Rattle.regions.specs.Ahead.{ahead, base_ahead, inside_ahead, sub_ahead};
-ghost use Rattle.regions.specs.Masks.{base_gathered, inside_gathered, masks, openings, sub_gathered};
+ghost use Rattle.regions.specs.Ahead.{ahead, base_ahead, sub_ahead};
+ghost use Rattle.regions.specs.Masks.{base_gathered, masks, openings, sub_gathered};
 ghost use Rattle.regions.specs.Words.{base, region_words, sub};
 
-use crate::ahead::{end_ahead, start_ahead};
+use crate::ahead::{Reach, reach_of};
 use crate::masks::{Masks, none_gathered, openings, with_base, with_sub};
-use crate::places::{BASE_WORDS, CIDCFGR, ENABLE, END, REGION_WORDS, START, SUBREGION_WORDS};
+use crate::places::{BASE_WORDS, CIDCFGR, REGION_WORDS, SUBREGION_WORDS};
 
 // What the base regions that were looked at say at an offset, and up to where they say that.
 #[derive(Clone, Copy)]
@@ -14,7 +14,7 @@ pub(crate) struct Scan {
     pub(crate) to: u64,
 }
 
-// With subregion s of base region x, which covers: START alone is ahead before it, and nothing past END.
+// With subregion s of base region x, which covers.
 fn sub_scanned(w: &[u32], x: usize, s: usize, o: u32, scan: Scan) -> Scan
     requires { (base x + region_words ≤ length w.now) × (s < 2) }
     ensures masks_value { result.masks ≡ sub_gathered false openings w.now x s o scan.masks }
@@ -22,59 +22,29 @@ fn sub_scanned(w: &[u32], x: usize, s: usize, o: u32, scan: Scan) -> Scan
 {
     let b = REGION_WORDS * x;
     let p = b + BASE_WORDS + SUBREGION_WORDS * s;
-    if (w[p] >> ENABLE) % 2 != 1 {
-        return scan;
-    }
-    if o < w[p + START] {
-        return Scan {
-            to: start_ahead(w[p + START], scan.to),
-            ..scan
-        };
-    }
-    if w[p + END] < o {
-        return scan;
-    }
-    Scan {
-        masks: with_sub(w[b], w[p], openings(w[p]), scan.masks),
-        to: end_ahead(w[p + END], scan.to),
+    match reach_of(w, p, o, scan.to) {
+        Reach::Outside(to) => Scan { to, ..scan },
+        Reach::Inside(to) => Scan {
+            masks: with_sub(w[b], w[p], openings(w[p]), scan.masks),
+            to,
+        },
     }
 }
 
-// With base region x, which covers, and its subregions.
-fn inside_scanned(w: &[u32], x: usize, o: u32, s: Scan) -> Scan
-    requires { base x + region_words ≤ length w.now }
-    ensures masks_value { result.masks ≡ inside_gathered false openings w.now x o s.masks }
-    ensures to_value { result.to ≡ inside_ahead w.now x o s.to }
-{
-    let b = REGION_WORDS * x;
-    let own = Scan {
-        masks: with_base(w[b], w[b + CIDCFGR], s.masks),
-        to: end_ahead(w[b + END], s.to),
-    };
-    sub_scanned(w, x, 1, o, sub_scanned(w, x, 0, o, own))
-}
-
-// With base region x and its subregions: START alone is ahead before it, nothing past END, and the subregions matter only where
-// it covers.
+// With base region x, and its subregions, which matter only where it covers.
 fn base_scanned(w: &[u32], x: usize, o: u32, s: Scan) -> Scan
     requires { base x + region_words ≤ length w.now }
     ensures masks_value { result.masks ≡ base_gathered false openings w.now x o s.masks }
     ensures to_value { result.to ≡ base_ahead w.now x o s.to }
 {
     let b = REGION_WORDS * x;
-    if (w[b] >> ENABLE) % 2 != 1 {
-        return s;
+    match reach_of(w, b, o, s.to) {
+        Reach::Outside(to) => Scan { to, ..s },
+        Reach::Inside(to) => {
+            let masks = with_base(w[b], w[b + CIDCFGR], s.masks);
+            sub_scanned(w, x, 1, o, sub_scanned(w, x, 0, o, Scan { masks, to }))
+        }
     }
-    if o < w[b + START] {
-        return Scan {
-            to: start_ahead(w[b + START], s.to),
-            ..s
-        };
-    }
-    if w[b + END] < o {
-        return s;
-    }
-    inside_scanned(w, x, o, s)
 }
 
 // With the first n base regions, in one pass. `gathered` has no boundaries, and one walk for both would carry them, or a type that leaves
