@@ -8,7 +8,8 @@ use crate::layout::STATE_WORDS;
 use access::{Answer, Kind, Why};
 use risaf::{GuardNumber, HEAD_WORDS, memory_checked};
 
-// A memory access: granted, it writes nothing. there says whether the master is one there is.
+// A memory access: granted, it writes nothing. there says whether the master is one there is, as it
+// does in memory_step; no value stands beside it.
 pub(crate) fn access_memory(
     state: &mut [u32; STATE_WORDS],
     there: bool,

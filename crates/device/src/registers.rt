@@ -17,7 +17,8 @@ const RIFSC_FLAG: Flag = Flag(158);
 const IAC_FLAG: Flag = Flag(138);
 
 // The three accesses end alike, in a match that stores or raises. It stays in each: what is stored and what is raised differs, so one
-// function over the three would take two closures in place of three lines. A Request says by a field whether it reads, so the reads require it.
+// function over the three would take two closures in place of three lines. A Request says by a field whether it reads, as C does, so the reads
+// require it.
 
 // A read of the controller's registers, which leaves the state.
 fn read_rifsc(state: &[u32; STATE_WORDS], q: Request) -> Answer
