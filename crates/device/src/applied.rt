@@ -25,7 +25,7 @@ fn access_register(state: &mut [u32; STATE_WORDS], a: RegisterAccess) -> Answer
     }
 }
 
-// ---- each kind of event, for callers that know the kind
+// ---- each kind of event, for callers that know the kind. Each looks at the length itself: C calls each, with a slice of any length
 
 pub fn apply_reset(state: &mut [u32]) -> Answer
     ensures answer { result ≡ applied_answer Reset state.old }

@@ -6,12 +6,9 @@ ghost use Rattle.rifsc.specs.Peripherals.{filter_of};
 ghost use Rattle.device.specs.Layout.{state_of};
 ghost use Rattle.device.specs.State.{with_rifsc};
 
-use crate::layout::{ATTR, CR, PRIVCFGR, RCFGLOCKR, RIMC_CR, SECCFGR, STATE_WORDS};
+use crate::layout::{ATTR, CR, IER, PRIVCFGR, RCFGLOCKR, RIMC_CR, SECCFGR, STATE_WORDS};
 use crate::part_words::{bit_in, store_in, word_in};
-use rifsc::{
-    Attributes, Filter, Lock, MASTERS, MasterNumber, PeripheralNumber, Register, Row, Seen,
-};
-use words::BIT_WORDS;
+use rifsc::{Attributes, Filter, Lock, MasterNumber, PeripheralNumber, Register, Row, Seen};
 
 // The word stored for a register.
 pub(crate) fn stored(state: &[u32; STATE_WORDS], reg: Register) -> u32
@@ -19,11 +16,11 @@ pub(crate) fn stored(state: &[u32; STATE_WORDS], reg: Register) -> u32
 {
     match reg {
         Register::Cr => state[CR],
-        Register::Seccfgr(x) => word_in(state, SECCFGR, BIT_WORDS, x),
-        Register::Privcfgr(x) => word_in(state, PRIVCFGR, BIT_WORDS, x),
-        Register::Rcfglockr(x) => word_in(state, RCFGLOCKR, BIT_WORDS, x),
+        Register::Seccfgr(x) => word_in(&state[SECCFGR..PRIVCFGR], x),
+        Register::Privcfgr(x) => word_in(&state[PRIVCFGR..RCFGLOCKR], x),
+        Register::Rcfglockr(x) => word_in(&state[RCFGLOCKR..RIMC_CR], x),
         Register::Rimccr => state[RIMC_CR],
-        Register::Attr(m) => word_in(state, ATTR, MASTERS, m),
+        Register::Attr(m) => word_in(&state[ATTR..IER], m),
         Register::Ppsr(_) => 0,
     }
 }
@@ -44,8 +41,8 @@ pub(crate) fn load_seen(state: &[u32; STATE_WORDS], reg: Register, row: Row) -> 
 {
     Seen {
         locked: is_locked(state, row.lock),
-        rlock: word_in(state, RCFGLOCKR, BIT_WORDS, row.index),
-        sec: word_in(state, SECCFGR, BIT_WORDS, row.index),
+        rlock: word_in(&state[RCFGLOCKR..RIMC_CR], row.index),
+        sec: word_in(&state[SECCFGR..PRIVCFGR], row.index),
         word: stored(state, reg),
     }
 }
@@ -56,11 +53,11 @@ pub(crate) fn store_register(state: &mut [u32; STATE_WORDS], reg: Register, v: u
 {
     match reg {
         Register::Cr => state[CR] = v,
-        Register::Seccfgr(x) => store_in(state, SECCFGR, BIT_WORDS, x, v),
-        Register::Privcfgr(x) => store_in(state, PRIVCFGR, BIT_WORDS, x, v),
-        Register::Rcfglockr(x) => store_in(state, RCFGLOCKR, BIT_WORDS, x, v),
+        Register::Seccfgr(x) => store_in(&mut state[SECCFGR..PRIVCFGR], x, v),
+        Register::Privcfgr(x) => store_in(&mut state[PRIVCFGR..RCFGLOCKR], x, v),
+        Register::Rcfglockr(x) => store_in(&mut state[RCFGLOCKR..RIMC_CR], x, v),
         Register::Rimccr => state[RIMC_CR] = v,
-        Register::Attr(m) => store_in(state, ATTR, MASTERS, m, v),
+        Register::Attr(m) => store_in(&mut state[ATTR..IER], m, v),
         Register::Ppsr(_) => {}
     }
 }
@@ -70,8 +67,8 @@ pub(crate) fn load_filter(state: &[u32; STATE_WORDS], p: PeripheralNumber) -> Fi
     ensures { result ≡ filter_of (state_of state.now).rifsc p }
 {
     Filter {
-        sec: bit_in(state, SECCFGR, p.0),
-        privileged: bit_in(state, PRIVCFGR, p.0),
+        sec: bit_in(&state[SECCFGR..PRIVCFGR], p.0),
+        privileged: bit_in(&state[PRIVCFGR..RCFGLOCKR], p.0),
     }
 }
 
@@ -80,7 +77,7 @@ pub(crate) fn load_attributes(state: &[u32; STATE_WORDS], m: MasterNumber) -> At
     ensures { result ≡ attributes_of (state_of state.now).rifsc m }
 {
     Attributes {
-        attr: word_in(state, ATTR, MASTERS, m.0 as usize),
-        sec: (m.0 == 0) | bit_in(state, SECCFGR, m.guarding().0),
+        attr: word_in(&state[ATTR..IER], m.0 as usize),
+        sec: (m.0 == 0) | bit_in(&state[SECCFGR..PRIVCFGR], m.guarding().0),
     }
 }

@@ -11,16 +11,15 @@ use crate::layout::{COUNT, IER, ISR, LINE, STATE_WORDS};
 use crate::part_words::{bit_in, store_in, word_in};
 use access::Flag;
 use iac::{Held, Register};
-use words::BIT_WORDS;
 
 // The word stored for a register: for ICR the flags that it clears.
 pub(crate) fn load_word(state: &[u32; STATE_WORDS], reg: Register) -> u32
     ensures { result ≡ stored (state_of state.now).iac reg }
 {
     match reg {
-        Register::Ier(x) => word_in(state, IER, BIT_WORDS, x),
-        Register::Isr(x) => word_in(state, ISR, BIT_WORDS, x),
-        Register::Icr(x) => word_in(state, ISR, BIT_WORDS, x),
+        Register::Ier(x) => word_in(&state[IER..ISR], x),
+        Register::Isr(x) => word_in(&state[ISR..LINE], x),
+        Register::Icr(x) => word_in(&state[ISR..LINE], x),
         Register::Iisr(_) => 0,
     }
 }
@@ -60,14 +59,14 @@ pub(crate) fn rewrite(state: &mut [u32; STATE_WORDS], reg: Register, named: u32,
 {
     match reg {
         Register::Ier(x) => {
-            store_in(state, IER, BIT_WORDS, x, new);
-            let isr = word_in(state, ISR, BIT_WORDS, x);
+            store_in(&mut state[IER..ISR], x, new);
+            let isr = word_in(&state[ISR..LINE], x);
             keep(state, named, isr, old, new);
         }
         Register::Isr(_) => {}
         Register::Icr(x) => {
-            store_in(state, ISR, BIT_WORDS, x, new);
-            let ier = word_in(state, IER, BIT_WORDS, x);
+            store_in(&mut state[ISR..LINE], x, new);
+            let ier = word_in(&state[IER..ISR], x);
             keep(state, named, ier, old, new);
         }
         Register::Iisr(_) => {}
@@ -83,10 +82,10 @@ pub(crate) fn raise(state: &mut [u32; STATE_WORDS], flag: Flag)
     if iac::is_flag(flag) {
         let x = (flag.0 / 32) as usize;
         let k = flag.0 % 32;
-        let isr = word_in(state, ISR, BIT_WORDS, x);
+        let isr = word_in(&state[ISR..LINE], x);
         if !words::bit_of(isr, k) {
-            store_in(state, ISR, BIT_WORDS, x, words::with_bit(isr, k, true));
-            let enabled = bit_in(state, IER, flag.0);
+            store_in(&mut state[ISR..LINE], x, words::with_bit(isr, k, true));
+            let enabled = bit_in(&state[IER..ISR], flag.0);
             recount(state, 0, enabled as u32);
         }
     }

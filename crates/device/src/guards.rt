@@ -7,37 +7,50 @@ ghost use Rattle.device.specs.Layout.{guards_at, state_of, state_words};
 ghost use Rattle.device.specs.State.{guard_at, with_guard_at};
 
 use crate::layout::{GUARDS, STATE_WORDS};
-use risaf::{Faults, GUARD_WORDS, IADDR, IAESR, IASR};
+use risaf::{Faults, GUARD_WORDS, IADDR, IAESR, IASR, Shape};
 
-// Where they begin.
-pub(crate) fn guard_start(place: usize) -> usize
-    requires { place < guard_count }
-    ensures { (result ≡ guards_at + guard_size * place) × (result + guard_size ≤ state_words) }
+// Where one stands among the guards, in rising number. A Shape does not hold the fact: it is public, and risaf answers for any.
+#[derive(Clone, Copy)]
+pub(crate) struct Place {
+    at: usize,
+    ghost within: { at < guard_count },
+}
+
+impl Place {
+    pub(crate) fn of(shape: Shape) -> Self
+        requires { shape.place < guard_count }
+        ensures { result.at ≡ shape.place }
+    {
+        Place { at: shape.place }
+    }
+}
+
+// Where its words begin.
+pub(crate) fn guard_start(place: Place) -> usize
+    ensures { (result ≡ guards_at + guard_size * place.at) × (result + guard_size ≤ state_words) }
 {
-    GUARDS + GUARD_WORDS * place
+    GUARDS + GUARD_WORDS * place.at
 }
 
 // The words of the guard there.
-pub(crate) fn load_words(state: &[u32; STATE_WORDS], place: usize) -> &[u32]
-    requires { place < guard_count }
-    ensures { result.now ≡ guard_words (guard_at (state_of state.now) place) }
+pub(crate) fn load_words(state: &[u32; STATE_WORDS], place: Place) -> &[u32]
+    ensures { result.now ≡ guard_words (guard_at (state_of state.now) place.at) }
 {
     let start = guard_start(place);
     &state[start..start + GUARD_WORDS]
 }
 
 // Stores the guard's word i.
-pub(crate) fn store_word(state: &mut [u32; STATE_WORDS], place: usize, i: usize, v: u32)
-    requires { (place < guard_count) × (i < guard_size) }
-    ensures { state_of state.new ≡ with_guard_at (state_of state.old) place (with_word (guard_at (state_of state.old) place) i v) }
+pub(crate) fn store_word(state: &mut [u32; STATE_WORDS], place: Place, i: usize, v: u32)
+    requires { i < guard_size }
+    ensures { state_of state.new ≡ with_guard_at (state_of state.old) place.at (with_word (guard_at (state_of state.old) place.at) i v) }
 {
     state[guard_start(place) + i] = v;
 }
 
 // The fault registers.
-pub(crate) fn load_faults(state: &[u32; STATE_WORDS], place: usize) -> Faults
-    requires { place < guard_count }
-    ensures { result ≡ faults_of (guard_at (state_of state.now) place) }
+pub(crate) fn load_faults(state: &[u32; STATE_WORDS], place: Place) -> Faults
+    ensures { result ≡ faults_of (guard_at (state_of state.now) place.at) }
 {
     let words = load_words(state, place);
     Faults {
@@ -47,9 +60,8 @@ pub(crate) fn load_faults(state: &[u32; STATE_WORDS], place: usize) -> Faults
     }
 }
 
-pub(crate) fn store_faults(state: &mut [u32; STATE_WORDS], place: usize, faults: Faults)
-    requires { place < guard_count }
-    ensures { state_of state.new ≡ with_guard_at (state_of state.old) place (with_faults (guard_at (state_of state.old) place) faults) }
+pub(crate) fn store_faults(state: &mut [u32; STATE_WORDS], place: Place, faults: Faults)
+    ensures { state_of state.new ≡ with_guard_at (state_of state.old) place.at (with_faults (guard_at (state_of state.old) place.at) faults) }
 {
     store_word(state, place, IASR, faults.iasr);
     store_word(state, place, IAESR, faults.iaesr);

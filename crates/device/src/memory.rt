@@ -3,12 +3,13 @@ ghost use Rattle.device.specs.Layout.{state_of};
 ghost use Rattle.device.specs.Step.{memory_step};
 
 use crate::flags::raise;
-use crate::guards::{load_faults, load_words, store_faults};
+use crate::guards::{Place, load_faults, load_words, store_faults};
 use crate::layout::STATE_WORDS;
 use access::{Answer, Kind, Why};
 use risaf::{GuardNumber, HEAD_WORDS, memory_checked};
 
-// A memory access: granted, it writes nothing. there says whether the master is one there is.
+// A memory access: granted, it writes nothing. there says whether the master is one there is, as it
+// does in memory_step; no value stands beside it.
 pub(crate) fn access_memory(
     state: &mut [u32; STATE_WORDS],
     there: bool,
@@ -28,14 +29,15 @@ pub(crate) fn access_memory(
         Err(why) => return Answer::Rejected(why),
     };
     let bus = shape.bus;
-    let words = load_words(state, shape.place);
+    let place = Place::of(shape);
+    let words = load_words(state, place);
     let verdict = regions::decide(bus, &words[HEAD_WORDS..], shape.regions, o, k);
     let Some(reason) = verdict.reason else {
         return Answer::Done(verdict.rule.number());
     };
     let heard = bus.hears(k);
-    let faults = load_faults(state, shape.place).recorded(o, heard);
-    store_faults(state, shape.place, faults);
+    let faults = load_faults(state, place).recorded(o, heard);
+    store_faults(state, place, faults);
     raise(state, shape.flag);
     Answer::Refused(reason.number())
 }

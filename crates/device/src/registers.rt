@@ -5,7 +5,7 @@ ghost use Rattle.device.specs.declared.event.Block.TheVariants.{Iac, Rifsc, Risa
 
 use crate::controller::{load_seen, store_register, stored};
 use crate::flags::{load_word, raise, rewrite};
-use crate::guards::{load_words, store_word};
+use crate::guards::{Place, load_words, store_word};
 use crate::layout::STATE_WORDS;
 use access::{Accessed, Answer, Flag, Request, Why};
 use iac::Seen;
@@ -17,7 +17,8 @@ const RIFSC_FLAG: Flag = Flag(158);
 const IAC_FLAG: Flag = Flag(138);
 
 // The three accesses end alike, in a match that stores or raises. It stays in each: what is stored and what is raised differs, so one
-// function over the three would take two closures in place of three lines. A Request says by a field whether it reads, so the reads require it.
+// function over the three would take two closures in place of three lines. A Request says by a field whether it reads, as C does, so the reads
+// require it.
 
 // A read of the controller's registers, which leaves the state.
 fn read_rifsc(state: &[u32; STATE_WORDS], q: Request) -> Answer
@@ -107,11 +108,12 @@ fn read_guard(state: &mut [u32; STATE_WORDS], guard: GuardNumber, q: Request) ->
     let Some(shape) = guard.shape() else {
         return Answer::Rejected(Why::NoSuch);
     };
-    let held = load_words(state, shape.place);
+    let place = Place::of(shape);
+    let held = load_words(state, place);
     let answer = risaf::read(held, shape, q);
     if let Answer::Refused(_) = answer {
         let iasr = words::with_bit(held[IASR], CAEF, true);
-        store_word(state, shape.place, IASR, iasr);
+        store_word(state, place, IASR, iasr);
         raise(state, shape.flag);
     }
     answer
@@ -135,12 +137,13 @@ pub(crate) fn access_guard(state: &mut [u32; STATE_WORDS], guard: GuardNumber, q
     let Some(row) = risaf::row_at(shape.regions, q.offset) else {
         return Answer::Rejected(Why::NoRegister);
     };
-    let port = Port::at(load_words(state, shape.place), row);
+    let place = Place::of(shape);
+    let port = Port::at(load_words(state, place), row);
     let Accessed { answer, next } = port.access(shape, row, q);
     match answer {
-        Answer::Done(_) => store_word(state, shape.place, row.place, next.word),
+        Answer::Done(_) => store_word(state, place, row.place, next.word),
         Answer::Refused(_) => {
-            store_word(state, shape.place, IASR, next.iasr);
+            store_word(state, place, IASR, next.iasr);
             raise(state, shape.flag);
         }
         Answer::Rejected(_) => {}

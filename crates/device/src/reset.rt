@@ -5,7 +5,7 @@ ghost use Rattle.device.specs.Layout.{state_of};
 ghost use Rattle.device.specs.State.{reset_state, with_guard};
 
 use crate::blocks::{store_iac, store_rifsc};
-use crate::guards::guard_start;
+use crate::guards::{Place, guard_start};
 use crate::layout::STATE_WORDS;
 use iac::Iac;
 use rifsc::Rifsc;
@@ -26,7 +26,7 @@ fn reset_guard(state: &mut [u32; STATE_WORDS], guard: GuardNumber)
     ensures { state_of state.new ≡ cond (is_guard guard.0) (with_guard (state_of state.old) guard.0 (guard_reset (shape_of guard.0).granule)) (state_of state.old) }
 {
     if let Some(shape) = guard.shape() {
-        let start = guard_start(shape.place);
+        let start = guard_start(Place::of(shape));
         state[start..start + GUARD_WORDS].copy_from_slice(&guard_words(shape.granule));
     }
 }

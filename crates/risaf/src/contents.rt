@@ -37,6 +37,7 @@ impl Guard {
     {
         let end = low_bits(granule);
         let mut regions = [0; REGIONS_WORDS];
+        // Counted, so that it shows where END lies: skip(END).step_by(SUBREGION_WORDS) hides it.
         for i in 0..REGIONS_WORDS / SUBREGION_WORDS {
             regions[SUBREGION_WORDS * i + END] = end;
         }

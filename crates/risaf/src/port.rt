@@ -94,7 +94,7 @@ fn locked(lock: Lock, p: Port) -> bool
     }
 }
 
-// The answer to an access to the register with this row. No lock stops a read.
+// The answer to an access to the register with this row, by Checks, which has the order of the tests. No lock stops a read.
 fn answer(bus: Bus, row: Row, p: Port, q: Request) -> Answer
     ensures { result ≡ answer_of true bus row p q }
 {

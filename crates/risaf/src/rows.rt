@@ -29,7 +29,7 @@ pub enum Form {
     SubregionCfgr,
 }
 
-// A register's row of the table: all that is fixed of it.
+// A register's row of the table: all that is fixed of it. Its flags are no kind between them: each says the same in every row.
 #[derive(Clone, Copy)]
 pub struct Row {
     // Not write-only, not read-only.
@@ -78,6 +78,8 @@ fn head_row(
     }
 }
 
+// The places of a region and a subregion are asked for, here and below: a type that holds them would need a constructor and two readers,
+// and no public function asks for them.
 fn base_row(x: usize, form: Form, named: u32, field: usize) -> Row
     requires { (x < most_regions) × (field < base_words) }
     ensures { result ≡ base_row x form named field }

@@ -1,15 +1,22 @@
+use mathlib.Core.List.{List}
 use mathlib.Core.Path.{◌≡◌, ◌∙◌, sym}
-use Prim.Native.Nat.{◌/◌, ◌%◌}
+use Prim.Native.Nat.{ℕ, ◌/◌, ◌%◌}
 use native.Mathlib.Omega.{arith}
+use borrow.Rule.Slice.PartMut.{put_mid}
 use lib.Dec.{lit<}
 use lib.ListN.{get_or}
 use Rattle.words.specs.Bit.{bit}
+use Rattle.words.specs.Six.{bit_words}
 use Rattle.iac.proofs.HeldLaws.{one-most}
-use Rattle.device.specs.Layout.{ier_part, isr_part, state_of}
+use Rattle.device.specs.Layout.{place_in, head_sizes, ier_part, isr_part, state_of}
 use Rattle.device.proofs.HeldSteps.{state-sized, flag-raised, flag-left, flag-none}
 use Rattle.device.proofs.PartWords.{heads-set, isr-stored}
 use Rattle.device.proofs.StateLayout.{head-part}
 use Rattle.device.proofs.flags.raise.Goals as goal
+
+-- m with other flags
+abbrev stored : List ℕ → List ℕ → List ℕ
+stored m flags = put_mid (place_in head_sizes isr_part) bit_words m flags
 
 pub recount-requires : goal.recount-requires
 recount-requires c = (omega arith, omega (arith, one-most c.bit_in-enabled.result))
@@ -24,8 +31,8 @@ returns-then-not-bit_of c =
     let x = a.flag.0 / 32 in
     let v = c.with_bit.result in
     let ei : c.word_in-isr.result ≡ get_or s.iac.isr x 0 = simp (c.word_in-isr.ensures, head-part m isr_part (lit< tt)) in
-    let ee : c.bit_in-enabled.result ≡ bit (get_or (state_of c.store_in.new.state).iac.ier x 0) (a.flag.0 % 32) =
-    simp (c.bit_in-enabled.ensures, head-part c.store_in.new.state ier_part (lit< tt)) in
+    let ee : c.bit_in-enabled.result ≡ bit (get_or (state_of (stored m c.store_in.new.part)).iac.ier x 0) (a.flag.0 % 32) =
+    simp (c.bit_in-enabled.ensures, head-part (stored m c.store_in.new.part) ier_part (lit< tt)) in
     flag-raised s a.flag ei (sym c.is_flag.ensures ∙ c.if-is_flag.true) (state-sized m h)
     (sym c.bit_of.ensures ∙ c.if-not-bit_of.true) c.with_bit.ensures
     (isr-stored x v (heads-set isr_part x v h (lit< tt) c.store_in.ensures)) ee c.recount.ensures

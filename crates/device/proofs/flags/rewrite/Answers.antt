@@ -1,15 +1,23 @@
+use mathlib.Core.List.{List}
 use mathlib.Core.Path.{◌≡◌, sym, ap}
+use Prim.Native.Nat.{ℕ}
+use borrow.Rule.Slice.PartMut.{put_mid}
 use lib.Dec.{lit<}
 use lib.ListN.{get_or}
+use Rattle.words.specs.Six.{bit_words}
 use Rattle.iac.specs.Contents.{stored, with_word}
 use Rattle.iac.specs.Registers.{iisr, row_of}
 use Rattle.iac.proofs.HeldAt.{at_none}
-use Rattle.device.specs.Layout.{ier_part, isr_part, state_of}
+use Rattle.device.specs.Layout.{place_in, head_sizes, ier_part, isr_part, state_of}
 use Rattle.device.specs.State.{with_iac}
 use Rattle.device.proofs.HeldSteps.{state-sized, ier-kept, isr-kept}
 use Rattle.device.proofs.PartWords.{heads-set, ier-stored, isr-stored}
 use Rattle.device.proofs.StateLayout.{head-part}
 use Rattle.device.proofs.flags.rewrite.Goals as goal
+
+-- a state with other words of part k
+abbrev with_part : ℕ → List ℕ → List ℕ → List ℕ
+with_part k m w = put_mid (place_in head_sizes k) bit_words m w
 
 pub returns-in-Ier : goal.returns-in-Ier
 unfolding row_of stored state_of
@@ -24,7 +32,7 @@ returns-in-Ier c =
     rw e
     (ier-kept (state_of m) x a.new (state-sized m c.told-state) named c.keep.ensures old
     (ier-stored x a.new (heads-set ier_part x a.new c.told-state (lit< tt) c.store_in.ensures))
-    (simp (c.word_in-isr.ensures, head-part c.store_in.new.state isr_part (lit< tt))))
+    (simp (c.word_in-isr.ensures, head-part (with_part ier_part m c.store_in.new.part) isr_part (lit< tt))))
 
 pub returns-in-Icr : goal.returns-in-Icr
 unfolding row_of stored state_of
@@ -39,7 +47,7 @@ returns-in-Icr c =
     rw e
     (isr-kept (state_of m) x a.new (state-sized m c.told-state) named c.keep-in-Icr.ensures old
     (isr-stored x a.new (heads-set isr_part x a.new c.told-state (lit< tt) c.store_in-in-Icr.ensures))
-    (simp (c.word_in-ier.ensures, head-part c.store_in-in-Icr.new.state ier_part (lit< tt))))
+    (simp (c.word_in-ier.ensures, head-part (with_part isr_part m c.store_in-in-Icr.new.part) ier_part (lit< tt))))
 
 pub returns-in-Isr : goal.returns-in-Isr
 unfolding with_word

@@ -8,7 +8,7 @@ pub returns : goal.returns
 unfolding with_word
 returns c =
     let n = guards-count c.args.state.now in
-    let p = c.args.place in
+    let p = c.args.place.at in
     let t = state_of c.args.state.now in
     c.store_word-3.ensures
-    ∙ word-again t _ p iaddr_at _ n c.requires (c.store_word-2.ensures ∙ word-again t _ p iaesr_at _ n c.requires c.store_word.ensures)
+    ∙ word-again t _ p iaddr_at _ n c.args.place.within (c.store_word-2.ensures ∙ word-again t _ p iaesr_at _ n c.args.place.within c.store_word.ensures)

@@ -1,17 +1,16 @@
 use Rattle.std.specs.Prelude.{Option}
-use mathlib.Core.Path.{ap, ◌∙◌}
-use Prim.Native.Nat.{◌<◌}
+use mathlib.Core.Path.{ap, sym, ◌∙◌}
+use Prim.Native.Nat.{ℕ}
 use native.Mathlib.Omega.{arith}
 use lib.ListN.{length, drop}
 use Rattle.std.proofs.lemmas.Slice.{between_to_end}
 use Rattle.access.specs.declared.answer.Answer.TheVariants.{Done, Refused}
-use Rattle.risaf.specs.Contents.{head_words}
-use Rattle.risaf.specs.Guards.{guard_count}
+use Rattle.risaf.specs.Contents.{guard_words, head_words}
 use Rattle.risaf.specs.Memory.{faulted, memory_checked}
 use Rattle.risaf.specs.declared.guards.Shape.{Shape}
 use Rattle.risaf.proofs.Shapes.{place-lt}
 use Rattle.device.specs.Layout.{state_of}
-use Rattle.device.specs.State.{flagged}
+use Rattle.device.specs.State.{flagged, guard_at}
 use Rattle.device.proofs.GuardSteps.{memory-no-master, memory-rejected, memory-at, memory-granted, memory-refused}
 use Rattle.device.proofs.GuardLayout.{regions-length}
 use Rattle.device.proofs.memory.access_memory.Goals as goal
@@ -29,20 +28,8 @@ returns-in-Err c =
     let all = memory-rejected (state_of a.state.now) c.if-not-there.false a.guard.0 a.o a.width a.k ea c.in-Err.is in
     record { answer = all.0; next = all.1 }
 
-pub load_words-words-requires : goal.load_words-words-requires
-load_words-words-requires c =
-    let a = c.args in
-    let ea = c.memory_checked.ensures ∙ ap (λ (g : Option Shape). memory_checked g a.o a.width a.k) c.shape.ensures in
-    rw (memory-at (state_of a.state.now) c.if-not-there.false a.guard.0 a.o a.width a.k ea c.in-Ok.is) (place-lt _)
-
-pub load_faults-requires : goal.load_faults-requires
-load_faults-requires c =
-    let a = c.args in
-    let ea = c.memory_checked.ensures ∙ ap (λ (g : Option Shape). memory_checked g a.o a.width a.k) c.shape.ensures in
-    rw (memory-at (state_of a.state.now) c.if-not-there.false a.guard.0 a.o a.width a.k ea c.in-Ok.is) (place-lt _)
-
-pub store_faults-requires : goal.store_faults-requires
-store_faults-requires c =
+pub of-place-requires : goal.of-place-requires
+of-place-requires c =
     let a = c.args in
     let ea = c.memory_checked.ensures ∙ ap (λ (g : Option Shape). memory_checked g a.o a.width a.k) c.shape.ensures in
     rw (memory-at (state_of a.state.now) c.if-not-there.false a.guard.0 a.o a.width a.k ea c.in-Ok.is) (place-lt _)
@@ -52,10 +39,9 @@ returns-in_default c =
     let a = c.args in
     let t = state_of a.state.now in
     let ea = c.memory_checked.ensures ∙ ap (λ (g : Option Shape). memory_checked g a.o a.width a.k) c.shape.ensures in
-    let l : c.in-Ok.shape.place < guard_count = rw (memory-at (state_of a.state.now) c.if-not-there.false a.guard.0 a.o a.width a.k ea c.in-Ok.is) (place-lt _) in
-    let ew = between_to_end c.load_words-words.result.now head_words _ (omega arith) ∙ ap (drop head_words) c.load_words-words.ensures in
+    let ew = between_to_end c.load_words-words.result.now head_words _ (omega arith) ∙ ap (drop head_words) (c.load_words-words.ensures ∙ ap (λ (p : ℕ). guard_words (guard_at t p)) c.of-place.ensures) in
     let all = memory-granted t c.if-not-there.false a.guard.0 a.o a.width a.k ea c.in-Ok.is ew
-    (ap length ew ∙ regions-length a.state.now _ c.told-state l) c.decide-verdict.ensures c.in_default.is in
+    (ap length ew ∙ regions-length a.state.now _ c.told-state (rw (sym c.of-place.ensures) c.of-place.result.within)) c.decide-verdict.ensures c.in_default.is in
     record { answer = ap Done c.number.ensures ∙ all.0; next = all.1 }
 
 pub returns : goal.returns
@@ -64,10 +50,9 @@ returns c =
     let a = c.args in
     let t = state_of a.state.now in
     let ea = c.memory_checked.ensures ∙ ap (λ (g : Option Shape). memory_checked g a.o a.width a.k) c.shape.ensures in
-    let l : c.in-Ok.shape.place < guard_count = rw (memory-at (state_of a.state.now) c.if-not-there.false a.guard.0 a.o a.width a.k ea c.in-Ok.is) (place-lt _) in
-    let ew = between_to_end c.load_words-words.result.now head_words _ (omega arith) ∙ ap (drop head_words) c.load_words-words.ensures in
+    let ew = between_to_end c.load_words-words.result.now head_words _ (omega arith) ∙ ap (drop head_words) (c.load_words-words.ensures ∙ ap (λ (p : ℕ). guard_words (guard_at t p)) c.of-place.ensures) in
     let all = memory-refused t c.if-not-there.false a.guard.0 a.o a.width a.k ea c.in-Ok.is ew
-    (ap length ew ∙ regions-length a.state.now _ c.told-state l) c.decide-verdict.ensures c.in-Some.is
+    (ap length ew ∙ regions-length a.state.now _ c.told-state (rw (sym c.of-place.ensures) c.of-place.result.within)) c.decide-verdict.ensures c.in-Some.is
     (c.raise.ensures
-    ∙ ap (flagged _) (c.store_faults.ensures ∙ rw (c.recorded-faults.ensures, c.hears-heard.ensures, c.load_faults.ensures))) in
+    ∙ ap (flagged _) (c.store_faults.ensures ∙ rw (c.recorded-faults.ensures, c.hears-heard.ensures, c.load_faults.ensures, c.of-place.ensures))) in
     record { answer = ap Refused c.number-2.ensures ∙ all.0; next = all.1 }

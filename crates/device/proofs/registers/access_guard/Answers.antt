@@ -1,7 +1,6 @@
 -- `device::registers::access_guard` meets its contract, by how the access ends.
 use mathlib.Core.Path.{ap, sym, ◌∙◌}
 use borrow.Author.Tests.{not-true, not-false}
-use lib.Dec.{lit<}
 use Rattle.risaf.proofs.RowPlaces.{place-fits}
 use Rattle.risaf.proofs.Shapes.{place-found}
 use Rattle.device.specs.Layout.{state_of}
@@ -36,17 +35,13 @@ returns-in_default-row_at c =
     (sym c.row_at.ensures ∙ c.in_default-row_at.is) in
     record { answer = all.0; next = all.1 }
 
-pub load_words-requires : goal.load_words-requires
-load_words-requires c =
+pub of-place-requires : goal.of-place-requires
+of-place-requires c =
     place-found c.args.guard.0 (sym c.shape.ensures ∙ c.in-Some.is)
 
 pub store_word-requires : goal.store_word-requires
 store_word-requires c =
-    (place-found c.args.guard.0 (sym c.shape.ensures ∙ c.in-Some.is), place-fits c.in-Some.shape.regions c.args.q.offset (sym c.row_at.ensures ∙ c.in-Some-row_at.is))
-
-pub store_word-requires-in-Refused : goal.store_word-requires-in-Refused
-store_word-requires-in-Refused c =
-    (place-found c.args.guard.0 (sym c.shape.ensures ∙ c.in-Some.is), lit< tt)
+    place-fits c.in-Some.shape.regions c.args.q.offset (sym c.row_at.ensures ∙ c.in-Some-row_at.is)
 
 pub returns-in-Done : goal.returns-in-Done
 returns-in-Done c =
@@ -54,9 +49,9 @@ returns-in-Done c =
     let t = state_of a.state.now in
     let es = sym c.shape.ensures ∙ c.in-Some.is in
     let er = sym c.row_at.ensures ∙ c.in-Some-row_at.is in
-    let ep = c.at-port.ensures ∙ rw c.load_words.ensures in
+    let ep = c.at-port.ensures ∙ rw (c.load_words.ensures, c.of-place.ensures) in
     let ea = c.access-answer.ensures in
-    record { answer = register-answer t a.guard a.q es er ep ea; next = register-written t a.guard a.q es er ep ea c.in-Done.is (not-false a.q.write c.if-not-q.false) c.store_word.ensures }
+    record { answer = register-answer t a.guard a.q es er ep ea; next = register-written t a.guard a.q es er ep ea c.in-Done.is (not-false a.q.write c.if-not-q.false) (c.store_word.ensures ∙ rw c.of-place.ensures) }
 
 pub returns-in-Refused : goal.returns-in-Refused
 returns-in-Refused c =
@@ -64,9 +59,9 @@ returns-in-Refused c =
     let t = state_of a.state.now in
     let es = sym c.shape.ensures ∙ c.in-Some.is in
     let er = sym c.row_at.ensures ∙ c.in-Some-row_at.is in
-    let ep = c.at-port.ensures ∙ rw c.load_words.ensures in
+    let ep = c.at-port.ensures ∙ rw (c.load_words.ensures, c.of-place.ensures) in
     let ea = c.access-answer.ensures in
-    record { answer = register-answer t a.guard a.q es er ep ea; next = register-refused t a.guard a.q es er ep ea c.in-Refused.is (c.raise.ensures ∙ ap (flagged _) c.store_word-in-Refused.ensures) }
+    record { answer = register-answer t a.guard a.q es er ep ea; next = register-refused t a.guard a.q es er ep ea c.in-Refused.is (c.raise.ensures ∙ ap (flagged _) (c.store_word-in-Refused.ensures ∙ rw c.of-place.ensures)) }
 
 pub returns-in-Rejected : goal.returns-in-Rejected
 returns-in-Rejected c =
@@ -74,6 +69,6 @@ returns-in-Rejected c =
     let t = state_of a.state.now in
     let es = sym c.shape.ensures ∙ c.in-Some.is in
     let er = sym c.row_at.ensures ∙ c.in-Some-row_at.is in
-    let ep = c.at-port.ensures ∙ rw c.load_words.ensures in
+    let ep = c.at-port.ensures ∙ rw (c.load_words.ensures, c.of-place.ensures) in
     let ea = c.access-answer.ensures in
     record { answer = register-answer t a.guard a.q es er ep ea; next = register-rejected t a.guard a.q es er ep ea c.in-Rejected.is }

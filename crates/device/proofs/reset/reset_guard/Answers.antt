@@ -9,8 +9,8 @@ use Rattle.device.proofs.GuardLayout.{guard-stored}
 use Rattle.device.proofs.ResetGuards.{guard-reset}
 use Rattle.device.proofs.reset.reset_guard.Goals as goal
 
-pub guard_start-start-requires : goal.guard_start-start-requires
-guard_start-start-requires c =
+pub of-requires : goal.of-requires
+of-requires c =
     place-found c.args.guard.0 (sym c.shape.ensures ∙ c.in-Some.is)
 
 pub returns-in-Some : goal.returns-in-Some
@@ -21,6 +21,6 @@ returns-in-Some c =
     let w = c.guard_words.result in
     let n : length w ≡ guard_size = ap length c.guard_words.ensures in
     guard-reset (state_of m) a.guard.0 (sym c.shape.ensures ∙ c.in-Some.is) c.guard_words.ensures
-    (rw c.guard_start-start.ensures.0
+    (rw (c.guard_start-start.ensures.0, c.of.ensures)
     (ap state_of (put_mid-paste _ _ m _ w (length w) c.copy_from_slice.ensures.after (omega (arith, n)) refl)
     ∙ guard-stored m _ w c.told-state (place-found a.guard.0 (sym c.shape.ensures ∙ c.in-Some.is)) n))
