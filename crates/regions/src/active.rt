@@ -10,7 +10,7 @@ use crate::places::{MOST_REGIONS, REGION_WORDS};
 // The base regions that a sweep has to look at from an offset on, up to `to`: no other covers there.
 #[derive(Clone, Copy)]
 pub struct Active {
-    // From this one up to the other, which is not one of them: a Range would not be Copy, and the map's loop keeps these by value.
+    // From this one up to the other, which is not one of them. No Range: `active_in`, by which docs/PROMISES.md has `active_at`, names both.
     pub low: usize,
     pub high: usize,
     pub to: u64,

@@ -114,8 +114,7 @@ pub(crate) fn with_base(cfgr: u32, cidcfgr: u32, m: Masks) -> Masks
     }
 }
 
-// With CFGR of a subregion that counts, and of its base region; opens is what it adds there. For a privileged asking PRIV need not be
-// looked at: a shift less.
+// With CFGR of a subregion that counts, and of its base region; opens is what it adds there. For a privileged asking PRIV is not looked at.
 fn with_sub_privileged(base: u32, sub: u32, opens: u32, m: Masks) -> Masks
     ensures { result ≡ with_sub true base sub opens m }
 {
@@ -126,7 +125,7 @@ fn with_sub_privileged(base: u32, sub: u32, opens: u32, m: Masks) -> Masks
     }
 }
 
-// The same, with PRIV too.
+// The same, with PRIV too: the other and one field more, where one function of both would have to be told which it is.
 pub(crate) fn with_sub(base: u32, sub: u32, opens: u32, m: Masks) -> Masks
     ensures { result ≡ with_sub false base sub opens m }
 {
