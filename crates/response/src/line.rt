@@ -12,7 +12,7 @@ use script::{Command, print_bad, read_line};
 // The most bytes that a line prints: the sheet of a map of the most rows.
 pub const RESPONSE_MOST: usize = 2800;
 
-// An event, applied and its answer printed.
+// An event, applied and its answer printed. A function of its own: so the must-fail edit `first` is refused here, not by what `put_map` does.
 fn obey_event(event: Event, state: &mut [u32], out: &mut [u8], at: usize) -> usize
     requires { at + most ≤ length out.old }
     ensures wrote { Wrote out.old at (answer_text (applied_answer event state.old)) out.new result }
@@ -22,7 +22,7 @@ fn obey_event(event: Event, state: &mut [u32], out: &mut [u8], at: usize) -> usi
     put_answer(out, at, answer)
 }
 
-// A line that is bad.
+// A line that is bad. A function of its own, with the place and bytes of `print_bad` as one fact, for the must-fail edit `first` likewise.
 fn put_bad(out: &mut [u8], at: usize, number: u64) -> usize
     requires { at + most ≤ length out.old }
     ensures { Wrote out.old at (bad_line number) out.new result }
