@@ -15,8 +15,8 @@ pub(crate) const HEX_STEP: usize = HEX_DIGITS + 1;
 // A letter and the tab behind it.
 pub(crate) const LETTER_STEP: usize = 2;
 
-// The most that a decimal number may be.
-const NUMBER_MOST: u64 = 4294967295;
+// The most that a decimal number may be. Compared, not by `u32::try_from`: the must-fail edit `second` makes it one more.
+const NUMBER_MOST: u64 = u32::MAX as u64;
 
 // 1 in each of eight bytes.
 const EACH: u64 = 0x0101_0101_0101_0101;

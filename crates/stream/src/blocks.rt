@@ -120,7 +120,8 @@ fn take_lines(
     )
 }
 
-// Whether there is room for the longest text.
+// Whether there is room for the longest text: the test of `respond`, asked before the kept bytes change. Shared it would be a public
+// function more, with a contract and edits of its own, for one line.
 fn has_room(out: &[u8], at: usize) -> bool
     ensures { result ≡ room_for_longest out.now at }
 {
