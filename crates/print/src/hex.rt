@@ -19,6 +19,7 @@ const LETTERS: u64 = 39;
 
 // The last eight hexadecimal digits of n: its last four bytes are put 16 bits apart, the first lowest, each is parted into its two
 // digits, and all digits become characters. The eight bytes of the last word are stored together.
+// docs/PROMISES.md names it with the edit of its letters; digit by digit an answer's line took 35 instructions more, a map's row 45.
 pub(crate) fn hex_digits(n: u64) -> [u8; 8]
     ensures { result ≡ hex_text 8 n }
 {

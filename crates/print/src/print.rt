@@ -17,6 +17,9 @@ ghost use Rattle.print.specs.Parts.{Wrote};
 use crate::hex::hex_digits;
 use risaf::GuardNumber;
 
+// Lines are put by hand, not by `Display` and `write!`: there is no heap, and a line is in lent bytes at its place, whole or not at all.
+// `out` and `at`, and the same place back where there is no room, are in the clauses of the functions that docs/PROMISES.md names.
+
 // Writes the bytes from `at` on. The place after them.
 fn put(out: &mut [u8], at: usize, bytes: &[u8]) -> usize
     requires { at + length bytes.now ≤ length out.old }
@@ -72,7 +75,8 @@ fn put_value(out: &mut [u8], at: usize, value: u32) -> usize
     put_hex(out, at, value as u64, b'\n')
 }
 
-// How many decimal digits n has. With `ilog10` a `mem` line takes 414 instructions, with this loop 359.
+// How many decimal digits n has. With `ilog10`, which was proved too, a line of a mixed script takes 561 instructions, 1.61 of C's, where
+// the bar is 1.6, and with this loop 505, 1.45 of C's.
 fn width(n: u64) -> usize
     ensures { (result ≡ width_of n) × (result ≤ 20) }
 {

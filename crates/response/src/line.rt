@@ -12,7 +12,7 @@ use script::{Command, print_bad, read_line};
 // The most bytes that a line prints: the sheet of a map of the most rows.
 pub const RESPONSE_MOST: usize = 2800;
 
-// An event, applied and its answer printed.
+// An event, applied and its answer printed. A function of its own: the must-fail edit `first` is refused here, not for what `put_map` does.
 fn obey_event(event: Event, state: &mut [u32], out: &mut [u8], at: usize) -> usize
     requires { at + most ≤ length out.old }
     ensures wrote { Wrote out.old at (answer_text (applied_answer event state.old)) out.new result }
@@ -22,7 +22,7 @@ fn obey_event(event: Event, state: &mut [u32], out: &mut [u8], at: usize) -> usi
     put_answer(out, at, answer)
 }
 
-// A line that is bad.
+// A line that is bad. A function of its own, with the place and bytes of `print_bad` as one fact, for the must-fail edit `first` likewise.
 fn put_bad(out: &mut [u8], at: usize, number: u64) -> usize
     requires { at + most ≤ length out.old }
     ensures { Wrote out.old at (bad_line number) out.new result }
@@ -50,10 +50,7 @@ pub fn respond(line: &[u8], number: u64, state: &mut [u32], out: &mut [u8], at: 
     ensures bytes { out.new ≡ bytes_after line.now number state.old out.old at }
     ensures next { state.new ≡ state_after line.now state.old out.old at }
 {
-    if out.len() < at {
-        return at;
-    }
-    if out.len() - at < RESPONSE_MOST {
+    if out.len().saturating_sub(at) < RESPONSE_MOST {
         return at;
     }
     obey(line, number, state, out, at)

@@ -11,6 +11,7 @@ use map::fill::{LEAST_ROOM, ROW_NUMBERS};
 use map::used_part;
 use risaf::GuardNumber;
 use script::{print_answer, print_end, print_guard, print_span};
+use spans::{END, RIGHTS, START};
 
 // `out` and `at` stay two parameters, with the room they need: `print` takes them so, and each function here writes but once or twice.
 
@@ -22,13 +23,14 @@ pub(crate) fn put_answer(out: &mut [u8], at: usize, answer: Answer) -> usize
     print_answer(out, at, answer.number(), answer.value())
 }
 
-// The line of row k of a map.
+// The line of row k of a map. By index, not by `as_chunks`: `start`, `end`, `rights` and `rows_in` of spans, in whose words a sheet is
+// defined, count the rows of the flat numbers so, and each array would first have to be told to be its row.
 fn put_row(out: &mut [u8], at: usize, map: &[u64], k: usize) -> usize
     requires { (at + 40 ≤ length out.old) × (row_numbers * k + row_numbers ≤ length map.now) }
     ensures { Wrote out.old at (span_line (start map.now k) (end map.now k) (rights map.now k)) out.new result }
 {
     let i = ROW_NUMBERS * k;
-    print_span(out, at, map[i], map[i + 1], map[i + 2])
+    print_span(out, at, map[i + START], map[i + END], map[i + RIGHTS])
 }
 
 // The lines of the first count rows of a map.

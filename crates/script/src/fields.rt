@@ -29,7 +29,7 @@ pub(crate) fn four(line: &[u8], from: usize) -> u32
 }
 
 // Whether the bytes from `from` on begin with a keyword, which has four bytes or more. Not `starts_with`: the must-fail edit `second`
-// passes over a keyword's fifth byte here.
+// passes over a keyword's fifth byte here. Nor `==` of slices from `FOUR` on: that edit would cut a keyword of four bytes past its end.
 pub(crate) fn begins(line: &[u8], from: usize, keyword: &[u8]) -> bool
     requires { (from ≤ suc (length line.now)) × (4 ≤ length keyword.now) × (length keyword.now ≤ 8) }
     ensures { result ≡ begins_at line.now from keyword.now }

@@ -15,8 +15,8 @@ pub(crate) const HEX_STEP: usize = HEX_DIGITS + 1;
 // A letter and the tab behind it.
 pub(crate) const LETTER_STEP: usize = 2;
 
-// The most that a decimal number may be.
-const NUMBER_MOST: u64 = 4294967295;
+// The most that a decimal number may be. Compared, not by `u32::try_from`: the must-fail edit `second` makes it one more.
+const NUMBER_MOST: u64 = u32::MAX as u64;
 
 // 1 in each of eight bytes.
 const EACH: u64 = 0x0101_0101_0101_0101;
@@ -28,6 +28,7 @@ const LOWER_PAIRS: u64 = 0x0000_ffff_0000_ffff;
 
 // Eight hexadecimal digits, all at once: each byte of `text` is a character, and each of `digits` the digit that it stands for, if its
 // `letters` says rightly whether it is a letter. It does where the digit is below 16 and its own character is the one in `text`.
+// Not `from_str_radix`, digit by digit: it reads a `+` and capitals too, which are bad (docs/PROMISES.md, the must-fail edit `first`).
 fn hex(line: &[u8], from: usize) -> Option<u32>
     requires { from + 8 ≤ length line.now }
     ensures { result ≡ hex_of (take 8 (drop from line.now)) }
@@ -53,7 +54,8 @@ fn is_decimal(b: u8) -> bool
     (b'0' <= b) & (b <= b'9')
 }
 
-// ---- the reading of the field that starts at `from`
+// ---- the reading of the field that starts at `from`: not methods of `Reader`, since docs/PROMISES.md names `decimal_at`, `operation_at`
+// and, in fields.rt, `begins` as they are, and the others are like them
 
 pub(crate) fn hex_at(line: &[u8], from: usize) -> Option<u32>
     requires { from ≤ suc (length line.now) }
@@ -65,7 +67,8 @@ pub(crate) fn hex_at(line: &[u8], from: usize) -> Option<u32>
     hex(line, from)
 }
 
-// A decimal number without leading zeros. The loop counts, since where the field ends is part of the result.
+// A decimal number without leading zeros. Not `parse`: it reads leading zeros and a `+` too, which are bad (docs/PROMISES.md, the must-fail
+// edit `first`). The loop counts, since where the field ends is part of the result.
 #[inline(always)]
 pub(crate) fn decimal_at(line: &[u8], from: usize) -> Option<(u32, usize)>
     ensures { result ≡ decimal_at line.now from }

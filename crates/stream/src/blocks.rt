@@ -28,7 +28,8 @@ struct Ended {
     bad: bool,
 }
 
-// Obeys a line. Only the text of a bad one starts with a b.
+// Obeys a line. Only the text of a bad one starts with a b. That letter, and the place that stays where there is no room, are looked at
+// since the clauses of `respond`, which docs/PROMISES.md names, give the text and the place alone.
 fn end_line(line: &[u8], number: u64, state: &mut [u32], out: &mut [u8], at: usize) -> Ended
     ensures place_value { result.place ≡ place_after line.now number state.old out.old at }
     ensures bad_value { result.bad ≡ (room_for_longest out.old at && is_bad (command_of line.now)) }
@@ -119,7 +120,8 @@ fn take_lines(
     )
 }
 
-// Whether there is room for the longest text.
+// Whether there is room for the longest text: the test of `respond`, asked before the kept bytes change. Shared it would be a public
+// function more, with a contract and edits of its own, for one line.
 fn has_room(out: &[u8], at: usize) -> bool
     ensures { result ≡ room_for_longest out.now at }
 {

@@ -11,6 +11,7 @@ use print::print_bad;
 pub const LINE_ROOM: usize = 65;
 
 // What is kept between calls beside the state: how many bytes of the unfinished line, the first of LINE_ROOM lent ones, and its number.
+// The count stands beside the bytes: they are lent memory, as there is no heap, and a `Held` is copied.
 // No invariant bounds the count: `called` in specs/Blocks says what `take` answers for more (`fits`).
 #[derive(Clone, Copy)]
 pub struct Held {
