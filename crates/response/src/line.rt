@@ -36,10 +36,12 @@ fn obey(line: &[u8], number: u64, state: &mut [u32], out: &mut [u8], at: usize) 
     ensures wrote { Wrote out.old at (text_of (command_of line.now) number state.old) out.new result }
     ensures state_after { state.new ≡ left_by (command_of line.now) state.old }
 {
-    match read_line(line) {
-        Some(Command::Event(event)) => obey_event(event, state, out, at),
-        Some(Command::Map(guard)) => put_map(out, at, state, guard),
-        None => put_bad(out, at, number),
+    let Some(command) = read_line(line) else {
+        return put_bad(out, at, number);
+    };
+    match command {
+        Command::Event(event) => obey_event(event, state, out, at),
+        Command::Map(guard) => put_map(out, at, state, guard),
     }
 }
 

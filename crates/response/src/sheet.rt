@@ -56,7 +56,8 @@ fn put_sheet(out: &mut [u8], at: usize, guard: GuardNumber, map: &[u64]) -> usiz
     print_end(out, b, count as u64)
 }
 
-// The map of a guard, made in lent numbers: its sheet, or the line of its refusal.
+// The map of a guard, made in lent numbers: its sheet, or the line of its refusal. Told by the answer's number, where the must-fail edit
+// `third` takes one refusal for all: a match on the Result could not be wrong so.
 fn put_filled(
     out: &mut [u8],
     at: usize,

@@ -4,21 +4,21 @@ use Rattle.std.specs.Prelude.{Some}
 use Rattle.response.specs.Response.{left_by, text_of}
 use Rattle.response.proofs.line.obey.Goals as goal
 
-pub returns-in-Some-Event : goal.returns-in-Some-Event
+pub returns-in_default : goal.returns-in_default
 unfolding text_of left_by
-returns-in-Some-Event c =
-    let line = sym c.read_line.ensures ∙ c.in-Some-Event.is ∙ ap Some c.in-Some-Event.field-0-is in
+returns-in_default c =
+    let line = sym c.read_line.ensures ∙ c.in_default.is in
+    record { wrote = rw line c.put_bad.ensures; state_after = rw line refl }
+
+pub returns-in-Event : goal.returns-in-Event
+unfolding text_of left_by
+returns-in-Event c =
+    let line = sym c.read_line.ensures ∙ c.in-Some.is ∙ ap Some c.in-Event.is in
     let e = c.obey_event.ensures in
     record { wrote = rw line e.wrote; state_after = rw line e.state_after }
 
-pub returns-in-Some-Map : goal.returns-in-Some-Map
+pub returns-in-Map : goal.returns-in-Map
 unfolding text_of left_by
-returns-in-Some-Map c =
-    let line = sym c.read_line.ensures ∙ c.in-Some-Map.is ∙ ap Some c.in-Some-Map.field-0-is in
+returns-in-Map c =
+    let line = sym c.read_line.ensures ∙ c.in-Some.is ∙ ap Some c.in-Map.is in
     record { wrote = rw line c.put_map.ensures; state_after = rw line refl }
-
-pub returns-in-None : goal.returns-in-None
-unfolding text_of left_by
-returns-in-None c =
-    let line = sym c.read_line.ensures ∙ c.in-None.is in
-    record { wrote = rw line c.put_bad.ensures; state_after = rw line refl }
