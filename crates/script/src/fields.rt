@@ -2,7 +2,7 @@ ghost use Rattle.std.specs.Prelude.{◌≡◌, ◌+◌, ◌≤◌, suc, length};
 ghost use Rattle.script.specs.Places.{begins_at, ends_at, four_at};
 
 // The most bytes of a line.
-pub(crate) const LINE_MOST: usize = 64;
+pub const LINE_MOST: usize = 64;
 
 // The bytes that `four` takes.
 const FOUR: usize = 4;

@@ -8,4 +8,5 @@ mod numbers;
 mod reader;
 
 pub use command::{Command, read_line};
+pub use fields::LINE_MOST;
 pub use print::{print_answer, print_bad, print_diff, print_end, print_guard, print_span};

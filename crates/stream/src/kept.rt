@@ -6,9 +6,10 @@ ghost use Rattle.stream.specs.Kept.{at_start, kept_count, kept_in, line_room};
 ghost use Rattle.stream.specs.Transcript.{end_text};
 
 use print::print_bad;
+use script::LINE_MOST;
 
-// A line has at most 64 bytes. One more is kept, so that a line too long stays too long.
-pub const LINE_ROOM: usize = 65;
+// One byte more than a line has is kept, so that a line too long stays too long.
+pub const LINE_ROOM: usize = LINE_MOST + 1;
 
 // What is kept between calls beside the state: how many bytes of the unfinished line, the first of LINE_ROOM lent ones, and its number.
 // The count stands beside the bytes: they are lent memory, as there is no heap, and a `Held` is copied.
