@@ -1,6 +1,6 @@
 -- A register access and a memory access to a guard, by what the code's calls give.
 use Rattle.std.specs.Prelude.{Option, Some, None, Result, Ok, Err}
-use mathlib.Core.Bool.{Bool, true, false, cond}
+use mathlib.Core.Bool.{true, false, cond}
 use mathlib.Core.List.{List}
 use mathlib.Core.Path.{◌≡◌, refl, sym, ap, ◌∙◌}
 use Prim.Native.Nat.{ℕ, ◌%◌}
@@ -26,7 +26,7 @@ use Rattle.regions.specs.declared.verdict.Reason.{Reason}
 use Rattle.regions.specs.declared.verdict.Verdict.{Verdict}
 use Rattle.risaf.specs.Contents.{iasr_at, regions_words, guard_words, with_word}
 use Rattle.risaf.specs.Guards.{is_guard, shape_at, shape_of}
-use Rattle.risaf.specs.Memory.{memory_answer, memory_checked, memory_checks, faulted, memory_stepped}
+use Rattle.risaf.specs.Memory.{memory_answer, memory_checked, faulted, memory_stepped}
 use Rattle.risaf.specs.Port.{port_in, answer_of, checks_of, checks_none, read_answer, accessed, stepped, stepped_at}
 use Rattle.risaf.specs.Rows.{row_at}
 use Rattle.risaf.specs.declared.contents.Guard.{Guard}
@@ -150,12 +150,7 @@ module _ (s : State) (n : GuardNumber) (q : Request) (w : q.write ≡ false) {sh
 
 -- ---- a memory access
 
-pub memory-no-master : (s : State) (n o width : ℕ) (k : Kind) {there : Bool} → there ≡ false
-    → (Rejected NoSuch ≡ (memory_step there n o width k s).answer) × (s ≡ (memory_step there n o width k s).next)
-unfolding memory_step memory_stepped memory_answer memory_checks answered_with
-memory-no-master s n o width k e = rw e (refl, refl)
-
-module _ (s : State) {there : Bool} (et : there ≡ true) (n o width : ℕ) (k : Kind) {r : Result Shape Why}
+module _ (s : State) (n o width : ℕ) (k : Kind) {r : Result Shape Why}
     (ea : r ≡ memory_checked (shape_at n) o width k) where
   abbrev answer_by : Verdict → Answer
   answer_by v = memory_answer (is_guard n) (shape_of n) o width k v
@@ -169,9 +164,9 @@ module _ (s : State) {there : Bool} (et : there ≡ true) (n o width : ℕ) (k :
   abbrev verdict_at : Shape → Verdict
   verdict_at shape = decided shape.bus (guard_at s shape.place).regions shape.regions o k
 
-  memory-is : memory_step there n o width k s ≡ stepped_by (shape_of n) (answer_by (verdict_at (shape_of n)))
+  memory-is : memory_step true n o width k s ≡ stepped_by (shape_of n) (answer_by (verdict_at (shape_of n)))
   unfolding memory_step memory_stepped guard_of with_guard
-  memory-is = rw et refl
+  memory-is = refl
 
   by-verdict : (v : Verdict) → answer_by v ≡ onward r (ruled v)
   by-verdict v =
@@ -180,7 +175,7 @@ module _ (s : State) {there : Bool} (et : there ≡ true) (n o width : ℕ) (k :
       ∙ ap (λ (x : Result Shape Why). onward x (ruled v)) (sym ea)
 
   pub memory-rejected : {why : Why} → r ≡ Err why
-      → (Rejected why ≡ (memory_step there n o width k s).answer) × (s ≡ (memory_step there n o width k s).next)
+      → (Rejected why ≡ (memory_step true n o width k s).answer) × (s ≡ (memory_step true n o width k s).next)
   memory-rejected e = rw (memory-is, by-verdict (verdict_at (shape_of n)), e) (refl, refl)
 
   -- where nothing rejects it, by the verdict on the words lent
@@ -190,7 +185,7 @@ module _ (s : State) {there : Bool} (et : there ≡ true) (n o width : ℕ) (k :
 
     module _ {w : List ℕ} {v : Verdict} (ew : w ≡ (guard_at s shape.place).regions) (lw : length w ≡ regions_words)
         (ev : v ≡ decided_in shape.bus w shape.regions o k) where
-      memory-by : memory_step there n o width k s ≡ stepped_by shape (ruled v)
+      memory-by : memory_step true n o width k s ≡ stepped_by shape (ruled v)
       memory-by =
           let m = regions-most n in
           let e : shape.regions ≡ (shape_of n).regions = ap (λ (y : Shape). y.regions) memory-at in
@@ -202,10 +197,10 @@ module _ (s : State) {there : Bool} (et : there ≡ true) (n o width : ℕ) (k :
           ∙ ap answer_by (sym ev) ∙ by-verdict v ∙ ap (λ (y : Result Shape Why). onward y (ruled v)) done)
 
       pub memory-granted : v.reason ≡ None
-          → (Done (rule_number v.rule) ≡ (memory_step there n o width k s).answer) × (s ≡ (memory_step there n o width k s).next)
+          → (Done (rule_number v.rule) ≡ (memory_step true n o width k s).answer) × (s ≡ (memory_step true n o width k s).next)
       memory-granted e = rw memory-by (rw e (refl, sym (guard-same s shape.place)))
 
       pub memory-refused : {b : Reason} → v.reason ≡ Some b → {t : State}
           → t ≡ flagged shape.flag (with_guard_at s shape.place (faulted (guard_at s shape.place) o (heard shape.bus k)))
-          → (Refused (reason_number b) ≡ (memory_step there n o width k s).answer) × (t ≡ (memory_step there n o width k s).next)
+          → (Refused (reason_number b) ≡ (memory_step true n o width k s).answer) × (t ≡ (memory_step true n o width k s).next)
       memory-refused d e = rw memory-by (rw d (refl, e))

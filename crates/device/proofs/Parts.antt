@@ -5,7 +5,7 @@ use Prim.Native.Nat.{ℕ, zero, suc, ◌+◌, ◌-◌, ◌*◌, ◌≤◌, ◌<�
 use native.Mathlib.Numerals.{add-one}
 use native.Mathlib.Omega.{arith}
 use lib.ListN.{length, take, drop, get_or, set, replicate, length-take, length-drop}
-use lib.Seq.{append_snoc, set_split, paste, paste-suc, drop-paste, take_at, drop_at, take-length, take-nil, drop-nil, length-take-le, drop-drop, take-take, take-append-le, drop-append-le, take-set-le, take-set-lt, drop-set-lt, drop-set-add, take-add}
+use lib.Seq.{append_snoc, set_split, paste, drop-paste, take_at, drop_at, take-length, take-nil, drop-nil, length-take-le, drop-drop, take-take, take-append-le, drop-append-le, take-set-le, take-set-lt, drop-set-lt, drop-set-add, take-add}
 use Rattle.device.specs.Layout.{place_in, total, parts_of, joined}
 
 -- ---- joined again
@@ -145,12 +145,6 @@ paste-past m at w a h l =
     ∙ ap (drop (a - (at + length w))) (drop-paste m at w (length w) (omega arith) (omega arith))
     ∙ drop-drop (a - (at + length w)) (at + length w) m
     ∙ ap (λ (k : ℕ). drop k m) e
-
--- one word more of a copy
-pub paste_more : (d : List ℕ) (at : ℕ) (s : List ℕ) (j : ℕ) {e : List ℕ} → e ≡ paste d at s j → at + j < length d → j < length s
-    → set e (at + j) (get_or s j 0) ≡ paste d at s (j + 1)
-paste_more d at s j q hd hs =
-    ap (λ (l : List ℕ). set l (at + j) (get_or s j 0)) q ∙ paste-suc d at s j 0 hd hs ∙ sym (ap (paste d at s) (add-one j))
 
 -- a word stored is a copy of one
 pub set-paste : (m : List ℕ) (at v : ℕ) → at < length m → set m at v ≡ paste m at (v ∷ []) 1

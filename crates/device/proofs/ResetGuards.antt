@@ -1,5 +1,5 @@
 -- Guard after guard reset, by their numbers, is every guard reset.
-use Rattle.std.specs.Prelude.{Some, None}
+use Rattle.std.specs.Prelude.{Some}
 use mathlib.Core.Bool.{Bool, true, false, cond}
 use mathlib.Core.List.{List, [], ◌∷◌, map}
 use mathlib.Core.Path.{◌≡◌, refl, ap, ap₂, ◌∙◌}
@@ -31,9 +31,6 @@ module _ (s : State) (n : ℕ) where
       rw f.1
       (et ∙ ap (λ (u : List ℕ). with_guard_at s shape.place (guard_from u)) ew
       ∙ ap (λ (x : Shape). with_guard_at s x.place (reset x.granule)) f.0)
-
-  pub guard_none : shape_at n ≡ None → s ≡ cond (is_guard n) (with_guard s n (reset (shape_of n).granule)) s
-  guard_none e = rw e refl
 
 -- ---- guards stored one after the other, from a place on
 

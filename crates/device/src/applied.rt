@@ -65,7 +65,7 @@ pub fn apply_memory(state: &mut [u32], a: MemoryAccess) -> Answer
     let Some(state) = state.as_mut_array::<STATE_WORDS>() else {
         return Answer::Rejected(Why::WrongLength);
     };
-    access_memory(state, true, a.guard, a.offset, a.width, a.kind)
+    access_memory(state, a.guard, a.offset, a.width, a.kind)
 }
 
 // A memory access by a master: of the kind that its ATTR says.
@@ -76,8 +76,11 @@ pub fn apply_master(state: &mut [u32], a: MasterAccess) -> Answer
     let Some(state) = state.as_mut_array::<STATE_WORDS>() else {
         return Answer::Rejected(Why::WrongLength);
     };
+    if !a.master.exists() {
+        return Answer::Rejected(Why::NoSuch);
+    }
     let kind = load_attributes(state, a.master).carried(a.write);
-    access_memory(state, a.master.exists(), a.guard, a.offset, a.width, kind)
+    access_memory(state, a.guard, a.offset, a.width, kind)
 }
 
 // ---- any event

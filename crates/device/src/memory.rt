@@ -1,29 +1,24 @@
-ghost use Rattle.std.specs.Prelude.{◌≡◌};
+ghost use Rattle.std.specs.Prelude.{true, ◌≡◌};
 ghost use Rattle.device.specs.Layout.{state_of};
 ghost use Rattle.device.specs.Step.{memory_step};
 
 use crate::flags::raise;
 use crate::guards::{Place, load_faults, load_words, store_faults};
 use crate::layout::STATE_WORDS;
-use access::{Answer, Kind, Why};
+use access::{Answer, Kind};
 use risaf::{GuardNumber, HEAD_WORDS, memory_checked};
 
-// A memory access: granted, it writes nothing. there says whether the master is one there is, as it
-// does in memory_step; no value stands beside it.
+// A memory access: granted, it writes nothing.
 pub(crate) fn access_memory(
     state: &mut [u32; STATE_WORDS],
-    there: bool,
     guard: GuardNumber,
     o: u32,
     width: u32,
     k: Kind,
 ) -> Answer
-    ensures answer { result ≡ (memory_step there guard.0 o width k (state_of state.old)).answer }
-    ensures next { state_of state.new ≡ (memory_step there guard.0 o width k (state_of state.old)).next }
+    ensures answer { result ≡ (memory_step true guard.0 o width k (state_of state.old)).answer }
+    ensures next { state_of state.new ≡ (memory_step true guard.0 o width k (state_of state.old)).next }
 {
-    if !there {
-        return Answer::Rejected(Why::NoSuch);
-    }
     let shape = match memory_checked(guard.shape(), o, width, k) {
         Ok(shape) => shape,
         Err(why) => return Answer::Rejected(why),

@@ -15,6 +15,7 @@ pub(crate) fn bit_in(part: &[u32], i: u32) -> bool
     words::bit_of(word_in(part, (i / 32) as usize), i % 32)
 }
 
+// By the length: get_mut is as many lines, and the check doesn't find what its contract leaves to show.
 pub(crate) fn store_in(part: &mut [u32], x: usize, v: u32)
     ensures { part.new ≡ set part.old x v }
 {
