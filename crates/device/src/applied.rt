@@ -25,7 +25,7 @@ fn access_register(state: &mut [u32; STATE_WORDS], a: RegisterAccess) -> Answer
     }
 }
 
-// ---- each kind of event, for callers that know the kind. Each looks at the length itself: C calls each, with a slice of any length
+// ---- each kind of event, for callers that know the kind. Each is public and takes a slice of any length, as C has it: each looks itself
 
 pub fn apply_reset(state: &mut [u32]) -> Answer
     ensures answer { result ≡ applied_answer Reset state.old }

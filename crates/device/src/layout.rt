@@ -37,7 +37,7 @@ pub(crate) const GUARDS: usize = COUNT + 1;
 pub const STATE_WORDS: usize = GUARDS + GUARD_COUNT * GUARD_WORDS;
 
 // The words of the regions of the guard at a place among the guards, as a part of the state's memory. An empty part where there is no
-// such guard, or the memory is of the wrong length: map hands it memory of any length, so it looks itself.
+// such guard, or the memory is of the wrong length: regions_in, its public promise, says what it gives of any length.
 pub fn region_words(state: &[u32], place: usize) -> &[u32]
     ensures { result.now ≡ regions_in state.now place }
 {
