@@ -1,4 +1,5 @@
 // Memory accesses whose answer is given as it stands in memory and in C: a number goes back in a register, an Answer through memory.
+// docs/PROMISES.md names both, and C calls them.
 ghost use Rattle.std.specs.Prelude.{◌≡◌};
 ghost use Rattle.access.specs.Answer.{encoded_of};
 ghost use Rattle.device.specs.Applied.{applied_answer, applied_state};

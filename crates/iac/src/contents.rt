@@ -5,7 +5,8 @@ ghost use Rattle.iac.specs.Contents.{reset};
 
 use words::BIT_WORDS;
 
-// The enables and the flags as stored, and the words that keep the line and the count of flags set and enabled: whole words.
+// The enables and the flags as stored, and the words that keep the line and the count of flags set and enabled: whole words. Not
+// with a Held in it: the definitions of its words, and the state's layout, have each by itself.
 #[derive(Clone, Copy)]
 pub struct Iac {
     pub ier: [u32; BIT_WORDS],

@@ -1,4 +1,4 @@
-// Where the words and the bits of a region are.
+// Where the words and the bits of a region are. Flat words, no struct of them: they lie so in the caller's memory, which is C's.
 
 // A base region's words: CFGR, START, END, CIDCFGR. A subregion's: CFGR, START, END, NEST.
 pub const START: usize = 1;

@@ -31,7 +31,8 @@ fn reason(a: Admits, k: Kind) -> Option<Reason>
     Some(Reason::Compartment)
 }
 
-// The verdict on a kind of asking.
+// The verdict on a kind of asking. That its CID is one is asked of each function here: a type for that would be made in `decide` alone, and
+// opened in each for the shift by it, so no plainer.
 fn judged(a: Admits, k: Kind) -> Verdict
     requires { k.cid.0 ≤ debugger.0 }
     ensures { result ≡ verdict_of a k }
@@ -43,7 +44,7 @@ fn judged(a: Admits, k: Kind) -> Verdict
     }
 }
 
-// Whether rule 0 admits the compartment.
+// Whether rule 0 admits the compartment. Not `reason` of `by_default`: the must-fail edit `first` has a wrong rule 0 here.
 fn is_default(bus: Bus, k: Kind) -> bool
     requires { k.cid.0 ≤ debugger.0 }
     ensures { result ≡ is_default bus k }
@@ -91,7 +92,8 @@ fn governed(w: &[u32], n: usize, o: u32, k: Kind) -> Option<Verdict>
     Some(by_regions(w, first, n, o, k))
 }
 
-// The verdict at an offset, by the words of n base regions. Too few words, or a CID over 7, are refused for the compartment.
+// The verdict at an offset, by the words of n base regions. Too few words, or a CID over 7, are refused for the compartment: it cannot fail
+// (docs/PROMISES.md), so it gives no Option.
 pub fn decide(bus: Bus, w: &[u32], n: usize, o: u32, k: Kind) -> Verdict
     ensures { result ≡ decided_in bus w.now n o k }
 {

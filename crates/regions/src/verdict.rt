@@ -25,6 +25,8 @@ pub struct Verdict {
     pub reason: Option<Reason>,
 }
 
+// Numbers by methods, as `Answer` and `Why` of access have theirs.
+
 impl Rule {
     // Its number in document 01's table, the value of a granted access.
     pub fn number(self) -> u32

@@ -86,7 +86,8 @@ impl Seen {
         write.answer(0)
     }
 
-    // An access to a register with this row. A write that is done leaves another word.
+    // An access to a register with this row, which the caller has looked up. A write that is done leaves another word. The IAC has its own: what
+    // is answered and what is left differs, so one for both would take a trait of two methods for five lines.
     pub fn access(mut self, reg: Register, row: Row, q: Request) -> Accessed<Seen>
         ensures { result ≡ accessed reg row self q }
     {

@@ -15,7 +15,8 @@ pub enum Register {
     Ppsr(usize),
 }
 
-// What stops every write to a register: GLOCK of CR, GLOCK of RIMC_CR, or nothing.
+// What stops every write to a register: GLOCK of CR, GLOCK of RIMC_CR, or nothing. A column of the table: as an Option each row of it would
+// say `Some` and be no plainer.
 #[derive(Clone, Copy)]
 pub enum Lock {
     Glock,

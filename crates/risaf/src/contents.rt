@@ -20,7 +20,7 @@ pub const REGIONS_WORDS: usize = MOST_REGIONS * REGION_WORDS;
 pub const GUARD_WORDS: usize = HEAD_WORDS + REGIONS_WORDS;
 
 // A guard's registers as stored, whole words. The regions lie one after the other, as regions::places has it. There is room for the
-// most regions, whatever the guard's own count.
+// most regions, whatever the guard's own count. Not with Faults in it: the definitions of its words have each by itself.
 #[derive(Clone, Copy)]
 pub struct Guard {
     pub cr: u32,

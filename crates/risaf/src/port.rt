@@ -53,7 +53,8 @@ fn word_in(w: &[u32], at: usize) -> u32
     w.get(at).copied().unwrap_or(0)
 }
 
-// The compartment that the port always speaks as. AHB carries none.
+// The compartment that the port always speaks as. AHB carries none. Not by `Bus::hears`, which takes a whole asking: the must-fail edit
+// `first` has a wrong compartment here.
 fn port_cid(bus: Bus) -> Cid
     ensures { result ≡ port_cid bus }
 {

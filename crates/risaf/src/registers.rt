@@ -13,7 +13,8 @@ pub enum Head {
     Iaddr,
 }
 
-// A register of a base region, and of a subregion.
+// A register of a base region, and of a subregion. Two, since the fourth differs and each row of the table does; one with the other's in
+// it would need a case that cannot be.
 #[derive(Clone, Copy)]
 pub enum BaseField {
     Cfgr,

@@ -8,7 +8,8 @@ use crate::contents::{CR, HEAD_WORDS, IADDR, IAESR, IASR};
 use crate::registers::{BaseField, Head, Register, SubField, register_at};
 use regions::places::{BASE_WORDS, CIDCFGR, END, NEST, REGION_WORDS, START, SUBREGION_WORDS};
 
-// What stops every write to a register: the guard's GLOCK, the subregion's RLOCK, or nothing.
+// What stops every write to a register: the guard's GLOCK, the subregion's RLOCK, or nothing. A column of the table: as an Option each row
+// of it would say `Some` and be no plainer.
 #[derive(Clone, Copy)]
 pub enum Lock {
     Glock,
@@ -29,7 +30,8 @@ pub enum Form {
     SubregionCfgr,
 }
 
-// A register's row of the table: all that is fixed of it. Its flags are no kind between them: each says the same in every row.
+// A register's row of the table: all that is fixed of it. Its flags are no kind between them: each says the same in every
+// row, as the paper's table does, which has read-only and how a write changes the word apart.
 #[derive(Clone, Copy)]
 pub struct Row {
     // Not write-only, not read-only.

@@ -7,7 +7,8 @@ use stream::{Held, LINE_ROOM};
 // How much is kept to be written at once.
 pub(crate) const OUT_ROOM: usize = 65_536;
 
-// All that is kept from block to block: what `stream` keeps, and the output, filled up to a place and not yet written. That a line's number
+// All that is kept from block to block, in fixed memory (no heap, so no Vec): what `stream` keeps, and the output, filled up to a place and
+// not yet written. That a line's number
 // is a u64 is said too, since the check does not say it of a number behind a reference.
 #[derive(Drop)]
 pub struct Memory {
