@@ -36,7 +36,7 @@ fn continues(lent: &[u64], count: usize, start: u64, old: u64, new: u64) -> bool
     (start - end == 1) & (lent[last + OLD] == old) & (lent[last + NEW] == new)
 }
 
-// One more span behind the first count rows of lent memory, and how many rows there then are. Where its words are equal it is no
+// One more span behind the first count rows of lent memory (C's: no Vec), and how many rows there then are. Where its words are equal it is no
 // row; where it goes on the last row that row ends with it; else it is a row of its own. Not one function with `spans::put`: that
 // one tests the room, one word and no gap, and writes another row, so both would be longer.
 pub(crate) fn put(lent: &mut [u64], count: usize, start: u64, end: u64, old: u64, new: u64) -> usize

@@ -21,7 +21,7 @@ fn past(rows: &[u64], i: usize, at: u64) -> usize
     i
 }
 
-// What differs between two maps of one window, over the front of lent memory, and its count of rows: both are walked once, from
+// What differs between two maps of one window, flat rows as C has them, over the front of lent memory, and its count of rows: both are walked once, from
 // boundary to boundary of either. No `for` counts the turns: each finds where the next begins, and which row is passed.
 pub(crate) fn walk(before: &[u64], after: &[u64], window: u64, lent: &mut [u64]) -> usize
     requires { (tiles window before.now ≡ true) × (tiles window after.now ≡ true) × (length before.now ≤ map.least_room) × (length after.now ≤ map.least_room) × (least_diff_room ≤ length lent.old) }

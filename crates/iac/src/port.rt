@@ -73,7 +73,7 @@ impl Seen {
         Answer::Done(0)
     }
 
-    // An access to a register with this row. A write that is done leaves another word.
+    // An access to a register with this row. A write that is done leaves another word. Not one with rifsc's: see there.
     pub fn access(mut self, reg: Register, row: Row, q: Request) -> Accessed<Seen>
         ensures { result ≡ accessed reg row self q }
     {

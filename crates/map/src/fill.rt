@@ -18,7 +18,7 @@ pub const MOST_ROWS: usize = 67;
 
 pub const LEAST_ROOM: usize = ROW_NUMBERS * MOST_ROWS;
 
-// The map of what n base regions give, over the front of lent memory, and its count of rows: from boundary to boundary, a span
+// The map of what n base regions give, over the front of lent memory (C's: no Vec), and its count of rows: from boundary to boundary, a span
 // with the rights at its start. They are those of the active base regions, up to the next START. No `for` counts the turns: each
 // finds where the next begins.
 fn sweep(bus: Bus, w: &[u32], n: usize, window: u64, lent: &mut [u64]) -> usize

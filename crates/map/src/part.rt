@@ -4,7 +4,7 @@ ghost use Rattle.map.specs.Part.{used_part};
 
 use access::Why;
 
-// The used part of lent memory, no copy: an empty part after a refusal, and where the memory is shorter.
+// The used part of lent memory, no copy: an empty part after a refusal, which document 01 asks for, and where the memory is shorter.
 pub fn used_part(buffer: &[u64], filled: Result<usize, Why>) -> &[u64]
     ensures { result.now ≡ used_part buffer.now (used_of filled) }
 {

@@ -125,7 +125,8 @@ fn with_sub_privileged(base: u32, sub: u32, opens: u32, m: Masks) -> Masks
     }
 }
 
-// The same, with PRIV too: the other and one field more, where one function of both would have to be told which it is.
+// The same, with PRIV too: the other and one field more. One function of both would be as long, and be told by `scan` too, which always wants
+// PRIV.
 pub(crate) fn with_sub(base: u32, sub: u32, opens: u32, m: Masks) -> Masks
     ensures { result ≡ with_sub false base sub opens m }
 {

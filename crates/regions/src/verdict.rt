@@ -25,7 +25,7 @@ pub struct Verdict {
     pub reason: Option<Reason>,
 }
 
-// Numbers by methods, as `Answer` and `Why` of access have theirs.
+// Numbers by methods of the definitions' name, not by From, which would be the same match with a law besides.
 
 impl Rule {
     // Its number in document 01's table, the value of a granted access.

@@ -9,7 +9,7 @@ use std::io::Write;
 // Room for a sheet.
 const SHEET_ROOM: usize = 65_536;
 
-// The lines of rows, from `at` on. The place after them.
+// The lines of rows, from `at` on. The place after them. Not one with `response`'s, where a row is three numbers and another line.
 fn put_rows(out: &mut [u8], at: usize, rows: &[[u64; ROW_NUMBERS]]) -> usize {
     let mut place = at;
     for [start, end, old, new, count] in rows {

@@ -16,8 +16,9 @@ const PATH_ROOM: usize = 4096;
 // How much is read at once, and room for what the lines print, which is dropped.
 const BLOCK_ROOM: usize = 65_536;
 
-// What is kept from block to block, and whether all lines so far were good. Not `suthrain`'s memory, whose walk over a block writes what is
-// filled: one walk for both would take a writer and a closure for the few lines that they share.
+// What is kept from block to block, and whether all lines so far were good: a flag, not an Option of the state, since behind a bad line the
+// others are run on that state, and named too. Not `suthrain`'s memory, whose read and walk over a block write what is filled: one for both
+// would take a writer and a closure for the few lines that they share.
 #[derive(Drop)]
 struct Script {
     state: [u32; STATE_WORDS],

@@ -46,7 +46,8 @@ fn obey(line: &[u8], number: u64, state: &mut [u32], out: &mut [u8], at: usize) 
 }
 
 // A line's bytes before the line feed, obeyed: its text goes to `out` from `at` on, and the place after it is given back. `number` is
-// the line's own, counted from 1. With room for fewer than RESPONSE_MOST bytes nothing is done, and the place is the same.
+// the line's own, counted from 1. With room for fewer than RESPONSE_MOST bytes nothing is done, and the place is the same: no Option, since
+// its clause, which docs/PROMISES.md names, gives a place.
 pub fn respond(line: &[u8], number: u64, state: &mut [u32], out: &mut [u8], at: usize) -> usize
     ensures place { result ≡ place_after line.now number state.old out.old at }
     ensures bytes { out.new ≡ bytes_after line.now number state.old out.old at }

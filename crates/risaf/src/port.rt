@@ -20,7 +20,7 @@ use crate::contents::{CR, IASR};
 use crate::guards::{Shape, low_bits};
 use crate::registers::{Register, register_at};
 use crate::rows::{Form, Lock, Row};
-use access::{Accessed, Answer, Bus, Checks, Cid, Request, Why};
+use access::{Accessed, Answer, Bus, Checks, Cid, PASSED, Request, Why};
 use regions::places::{COMPARTMENTS, SEC};
 
 // What an access to a register needs of the guard.
@@ -46,7 +46,7 @@ const RLOCK: u32 = 1;
 
 pub const CAEF: u32 = 0;
 
-// The word at a place; 0 past the end.
+// The word at a place; 0 past the end. `device` has it too: shared it would be a public function more, with edits of its own, for one line.
 fn word_in(w: &[u32], at: usize) -> u32
     ensures { result ≡ get_or w.now at 0 }
 {
@@ -100,14 +100,10 @@ fn answer(bus: Bus, row: Row, p: Port, q: Request) -> Answer
     ensures { result ≡ answer_of true bus row p q }
 {
     let read = Checks {
-        present: true,
         aligned: q.offset % 4 == 0,
-        inside: true,
-        fetchless: true,
-        known: true,
         allowed: !row.guarded | (q.secure & q.privileged),
         direction: row.readable,
-        unlocked: true,
+        ..PASSED
     };
     if !q.write {
         return read.answer(words::masked(p.word, row.named));

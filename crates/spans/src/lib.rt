@@ -18,8 +18,8 @@ pub const RIGHTS: usize = 2;
 
 const FOUR_ROWS: usize = 4 * ROW_NUMBERS;
 
-// The place of the first row from `from` on that does not end before the offset, or the map's length where there is none; of a map,
-// whose rows rise, such a row encloses the offset. Four rows a turn, whose tests the compiler lays out in a row: a lookup in 67 spans
+// The place of the first row from `from` on that does not end before the offset, or the map's length where there is none, which `row_place`
+// hands on as its definition has it; of a map, whose rows rise, such a row encloses the offset. Four rows a turn, whose tests the compiler lays out in a row: a lookup in 67 spans
 // takes 128 instructions, 0.83 of C's, and by `map.chunks_exact(ROW_NUMBERS)` 307, 1.99 of C's, where the bar is 1.0.
 fn end_place(map: &[u64], from: usize, offset: u64) -> usize
     requires { Passed map.now offset from }
@@ -59,7 +59,7 @@ pub fn row_place(map: &[u64], offset: u64) -> usize
     map.len()
 }
 
-// The first row whose start and end enclose the offset, as a part of the map, or an empty part.
+// The first row whose start and end enclose the offset, as a part of the map, or an empty part: document 01 asks for that, not an Option.
 pub fn lookup(map: &[u64], offset: u64) -> &[u64]
     ensures { result.now ≡ lookup_in map.now offset }
 {

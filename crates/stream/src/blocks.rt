@@ -46,7 +46,7 @@ fn end_line(line: &[u8], number: u64, state: &mut [u32], out: &mut [u8], at: usi
     }
 }
 
-// A call that stops at no bad line.
+// A call that stops at no bad line. Not one with `behind_bad`: what is kept next differs, what was held or nothing of the line behind.
 fn stopped(took: usize, filled: usize, held: Held) -> Taken
     ensures { result ≡ record { took = took; filled = filled; held = held; bad = None } }
 {
