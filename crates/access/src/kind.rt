@@ -1,3 +1,6 @@
+ghost use Rattle.std.specs.Prelude.{◌≡◌};
+ghost use Rattle.access.specs.Kind.{equals};
+
 // A compartment number, CID; never a guard's or a peripheral's number.
 #[repr(C)]
 #[derive(Clone, Copy, PartialEq, Eq)]
@@ -14,4 +17,13 @@ pub struct Kind {
     pub write: bool,
     pub privileged: bool,
     pub secure: bool,
+}
+
+impl Cid {
+    // As derived, with the promise that the definitions speak of.
+    pub fn equals(self, other: Cid) -> bool
+        ensures { result ≡ equals self other }
+    {
+        self == other
+    }
 }

@@ -36,7 +36,7 @@ pub(crate) struct Served {
 pub(crate) fn served_by(cid: Cid) -> Served
     ensures { result ≡ served_by cid.0 }
 {
-    if cid == DEBUGGER {
+    if cid.equals(DEBUGGER) {
         return Served { mask: 0, srcid: 0 };
     }
     Served {
