@@ -24,10 +24,10 @@ impl Memory {
         ensures room { OnOk result (self.new.at + most ≤ length self.new.out) }
         ensures part { OnOk result (Part (kept_by self.old) (kept_by self.new) [] (W.contents output.old) (W.contents output.new) (filled_by self.old) (filled_by self.new)) }
     {
-        if self.at <= OUT_ROOM - RESPONSE_MOST {
-            return Ok(());
+        if OUT_ROOM - RESPONSE_MOST < self.at {
+            return self.flush(output);
         }
-        self.flush(output)
+        Ok(())
     }
 
     // Takes as much of the block as there is room for. How much.
