@@ -1,12 +1,23 @@
--- A line, with and without room.
+-- A line's command, and a line with and without room.
 use mathlib.Core.List.{List}
-use mathlib.Core.Path.{◌≡◌}
+use mathlib.Core.Path.{◌≡◌, refl}
 use Prim.Native.Nat.{ℕ, ◌+◌, ◌≤◌, ◌<◌}
 use borrow.Author.Tests.{le-leb, lt-leb}
 use lib.ListN.{length}
+use Rattle.std.specs.Prelude.{Option, Some, None}
+use Rattle.device.specs.declared.event.Event.{Event}
+use Rattle.risaf.specs.declared.guards.GuardNumber.{GuardNumber}
+use Rattle.script.specs.declared.command.Command.{Command}
+use Rattle.script.specs.declared.command.Command.TheVariants.{Event as AnEvent, Map}
 use Rattle.script.specs.Command.{command_of}
 use Rattle.print.specs.Parts.{Wrote}
 use Rattle.response.specs.Response.{bytes_after, most, left_by, place_after, state_after, text_of}
+
+-- a line that is neither a map request nor an event is bad
+pub neither : (c : Option Command) → ((e : Event) → c ≡ Some (AnEvent e) → ⊥) → ((n : GuardNumber) → c ≡ Some (Map n) → ⊥) → c ≡ None
+neither (Some (AnEvent e)) h k = absurd (h e refl)
+neither (Some (Map n)) h k = absurd (k n refl)
+neither None h k = refl
 
 module _ (line : List ℕ) (number : ℕ) (m out : List ℕ) (at : ℕ) where
   pub no_room : length out < at + most
