@@ -14,7 +14,7 @@ use Rattle.access.specs.declared.answer.Answer.{Answer}
 use Rattle.access.specs.declared.answer.Answer.TheVariants.{Done, Refused, Rejected}
 use Rattle.access.specs.declared.request.Request.{Request}
 use Rattle.rifsc.specs.Port as rifsc
-use Rattle.rifsc.proofs.PortLaws.{read_is}
+use Rattle.rifsc.proofs.PortLaws.{read_is, read_none}
 use Rattle.rifsc.specs.Contents.{seen, stored, with_stored}
 use Rattle.rifsc.specs.Registers.{register_at, row_of}
 use Rattle.rifsc.specs.declared.port.Seen.{Seen}
@@ -77,11 +77,33 @@ module _ (s : State) (q : Request) (h : q.offset % 4 ≡ 0) where
   unfolding register_step iac.stepped_at answered_with reached_with
   flags-none e = rw (e, eq-eqb (q.offset % 4) 0 h) (refl, refl)
 
+-- what a read and an access give of none, at any offset
+module _ (s : State) (q : Request) where
+  pub controller-none-read : {a : Answer} (x : ℕ) → register_at q.offset ≡ None → a ≡ rifsc.read_answer None x q.offset
+      → register_step Rifsc q s ≡ settled a rifsc_flag s s
+  unfolding register_step rifsc.stepped_at
+  controller-none-read x e k = rw (e, k, ← read_none x q.offset) refl
+
+  pub controller-none-is : {r : Accessed Seen} (v : Seen) → register_at q.offset ≡ None → r ≡ rifsc.accessed_at None None v q
+      → register_step Rifsc q s ≡ settled r.answer rifsc_flag s s
+  unfolding register_step rifsc.stepped_at rifsc.accessed_at
+  controller-none-is v e k = rw (e, k) refl
+
+  pub flags-none-read : {a : Answer} (x : ℕ) → iac-registers.register_at q.offset ≡ None → a ≡ iac.read_answer None x q
+      → register_step Iac q s ≡ settled a iac_flag s s
+  unfolding register_step iac.stepped_at
+  flags-none-read x e k = rw (e, k, ← iac-laws.read_none x q) refl
+
+  pub flags-none-is : {r : Accessed IacSeen} (v : IacSeen) → iac-registers.register_at q.offset ≡ None → r ≡ iac.accessed_at None None v q
+      → register_step Iac q s ≡ settled r.answer iac_flag s s
+  unfolding register_step iac.stepped_at iac.accessed_at
+  flags-none-is v e k = rw (e, k) refl
+
 -- ---- the controller, by what the code's calls give
 
 -- a read, which is never refused
-module _ (s : State) (q : Request) (w : q.write ≡ false) {reg : Register} {row : Row} {x : ℕ} {a : Answer}
-    (eg : register_at q.offset ≡ Some reg) (er : row ≡ row_of reg) (ex : x ≡ stored s.rifsc reg)
+module _ (s : State) (q : Request) (w : q.write ≡ false) {reg : Register} {row : Option Row} {x : ℕ} {a : Answer}
+    (eg : register_at q.offset ≡ Some reg) (er : row ≡ Some (row_of reg)) (ex : x ≡ stored s.rifsc reg)
     (ea : a ≡ rifsc.read_answer row x q.offset) where
   abbrev answering : Answer → Outcome
   answering b = settled b rifsc_flag s (with_rifsc s (left b s.rifsc s.rifsc s.rifsc))
@@ -91,10 +113,10 @@ module _ (s : State) (q : Request) (w : q.write ≡ false) {reg : Register} {row
   read_step = rw (ea, ex, er, eg) (rw (read_is (row_of reg) _ _ q w, w) refl)
 
   kept : s ≡ (answering a).next
-  unfolding rifsc.read_answer
-  kept = rw ea (by (eqb (q.offset % 4) 0))
+  unfolding rifsc.read_answer rifsc.read_at
+  kept = rw (ea, er) (by (eqb (q.offset % 4) 0))
     where
-      by : (b : Bool) → s ≡ (answering (unless b (Rejected Misaligned) (Done (rifsc.read_of row x)))).next
+      by : (b : Bool) → s ≡ (answering (unless b (Rejected Misaligned) (Done (rifsc.read_of (row_of reg) x)))).next
       by true = refl
       by false = refl
 
@@ -102,12 +124,12 @@ module _ (s : State) (q : Request) (w : q.write ≡ false) {reg : Register} {row
   controller-read = rw read_step (refl, kept)
 
 module _ (s : State) (q : Request) {reg : Register} {row : Row} {v : Seen} {r : Accessed Seen} (eg : register_at q.offset ≡ Some reg)
-    (er : row ≡ row_of reg) (ev : v ≡ seen s.rifsc reg row.lock row.index) (ea : r ≡ rifsc.accessed reg row v q) where
+    (er : row ≡ row_of reg) (ev : v ≡ seen s.rifsc reg row.lock row.index) (ea : r ≡ rifsc.accessed_at (Some reg) (Some row) v q) where
   controller-is : register_step Rifsc q s
       ≡ settled r.answer rifsc_flag s
       (with_rifsc s
       (left r.answer s.rifsc (cond q.write (with_stored s.rifsc reg (rifsc.word_written reg row v q.value q.secure)) s.rifsc) s.rifsc))
-  unfolding register_step rifsc.stepped_at rifsc.written rifsc.accessed
+  unfolding register_step rifsc.stepped_at rifsc.written rifsc.accessed_at rifsc.accessed
   controller-is = rw (ea, ev, er, eg)
 
   controller-answer : r.answer ≡ (register_step Rifsc q s).answer
@@ -116,7 +138,7 @@ module _ (s : State) (q : Request) {reg : Register} {row : Row} {v : Seen} {r : 
   pub controller-written : {t : State} {x : ℕ} → r.answer ≡ Done x → q.write ≡ true
       → t ≡ with_rifsc s (with_stored s.rifsc reg r.next.word)
       → (r.answer ≡ (register_step Rifsc q s).answer) × (t ≡ (register_step Rifsc q s).next)
-  unfolding rifsc.accessed
+  unfolding rifsc.accessed_at rifsc.accessed
   controller-written d w e =
       let n : r.next.word ≡ rifsc.word_written reg row v q.value q.secure = ap (λ (o : Accessed Seen). o.next.word) ea ∙ rw (sym (ap (λ (o : Accessed Seen). o.answer) ea) ∙ d, w) in
       (controller-answer, rw controller-is (rw (d, w) (e ∙ ap (λ (k : ℕ). with_rifsc s (with_stored s.rifsc reg k)) n)))
@@ -132,8 +154,8 @@ module _ (s : State) (q : Request) {reg : Register} {row : Row} {v : Seen} {r : 
 -- ---- the IAC, by what the code's calls give
 
 -- a read
-module _ (s : State) (q : Request) (w : q.write ≡ false) {reg : IacRegister} {row : IacRow} {v : ℕ} {a : Answer}
-    (eg : iac-registers.register_at q.offset ≡ Some reg) (er : row ≡ iac-registers.row_of reg) (ev : v ≡ iac-contents.stored s.iac reg)
+module _ (s : State) (q : Request) (w : q.write ≡ false) {reg : IacRegister} {row : Option IacRow} {v : ℕ} {a : Answer}
+    (eg : iac-registers.register_at q.offset ≡ Some reg) (er : row ≡ Some (iac-registers.row_of reg)) (ev : v ≡ iac-contents.stored s.iac reg)
     (ea : a ≡ iac.read_answer row v q) where
   abbrev flagging : Answer → Outcome
   flagging b = settled b iac_flag s (with_iac s (left b s.iac s.iac s.iac))
@@ -155,12 +177,12 @@ module _ (s : State) (q : Request) (w : q.write ≡ false) {reg : IacRegister} {
       by (Rejected y) o = refl
 
 module _ (s : State) (q : Request) {reg : IacRegister} {row : IacRow} {v : ℕ} {r : Accessed IacSeen} (eg : iac-registers.register_at q.offset ≡ Some reg)
-    (er : row ≡ iac-registers.row_of reg) (ev : v ≡ iac-contents.stored s.iac reg) (ea : r ≡ iac.accessed reg row (record { word = v }) q) where
+    (er : row ≡ iac-registers.row_of reg) (ev : v ≡ iac-contents.stored s.iac reg) (ea : r ≡ iac.accessed_at (Some reg) (Some row) (record { word = v }) q) where
   flags-is : register_step Iac q s
       ≡ settled r.answer iac_flag s
       (with_iac s
       (left r.answer s.iac (cond q.write (held s.iac (iac-contents.with_word s.iac reg (iac.word_written reg v q.value))) s.iac) s.iac))
-  unfolding register_step iac.stepped_at iac.written iac.accessed
+  unfolding register_step iac.stepped_at iac.written iac.accessed_at iac.accessed
   flags-is = rw (ea, ev, er, eg)
 
   flags-answer : r.answer ≡ (register_step Iac q s).answer
@@ -169,7 +191,7 @@ module _ (s : State) (q : Request) {reg : IacRegister} {row : IacRow} {v : ℕ} 
   pub flags-written : {t : State} {x : ℕ} → r.answer ≡ Done x → q.write ≡ true
       → t ≡ with_iac s (held s.iac (iac-contents.with_word s.iac reg r.next.word))
       → (r.answer ≡ (register_step Iac q s).answer) × (t ≡ (register_step Iac q s).next)
-  unfolding iac.accessed
+  unfolding iac.accessed_at iac.accessed
   flags-written d w e =
       let n : r.next.word ≡ iac.word_written reg v q.value = ap (λ (o : Accessed IacSeen). o.next.word) ea ∙ rw (sym (ap (λ (o : Accessed IacSeen). o.answer) ea) ∙ d, w) in
       (flags-answer, rw flags-is (rw (d, w) (e ∙ ap (λ (k : ℕ). with_iac s (held s.iac (iac-contents.with_word s.iac reg k))) n)))

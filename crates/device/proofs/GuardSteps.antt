@@ -27,7 +27,7 @@ use Rattle.regions.specs.declared.verdict.Verdict.{Verdict}
 use Rattle.risaf.specs.Contents.{iasr_at, regions_words, guard_words, with_word}
 use Rattle.risaf.specs.Guards.{is_guard, shape_at, shape_of}
 use Rattle.risaf.specs.Memory.{memory_answer, memory_checked, faulted, memory_stepped}
-use Rattle.risaf.specs.Port.{port_in, answer_of, checks_of, checks_none, read_answer, accessed, stepped, stepped_at}
+use Rattle.risaf.specs.Port.{port_in, answer_of, checks_of, checks_none, read_answer, accessed, accessed_at, stepped, stepped_at}
 use Rattle.risaf.specs.Rows.{row_at}
 use Rattle.risaf.specs.declared.contents.Guard.{Guard}
 use Rattle.risaf.specs.declared.guards.GuardNumber.{GuardNumber}
@@ -58,7 +58,7 @@ guard-step s n q e = let f = found n.0 e in rw (f.0, f.1) refl
 
 module _ (s : State) (n : GuardNumber) (q : Request) {shape : Shape} {row : Row} {p : Port} {r : Accessed Port} (es : shape_at n.0 ≡ Some shape)
     (er : row_at shape.regions q.offset ≡ Some row) (ep : p ≡ port_in (guard_words (guard_at s shape.place)) row)
-    (ea : r ≡ accessed true shape row p q) where
+    (ea : r ≡ accessed_at (Some shape) (Some row) p q) where
   abbrev g : Guard
   g = guard_at s shape.place
 
@@ -66,7 +66,7 @@ module _ (s : State) (n : GuardNumber) (q : Request) {shape : Shape} {row : Row}
       ≡ settled r.answer shape.flag s
       (with_guard_at s shape.place
       (left r.answer g (cond q.write (with_word g row.place r.next.word) g) (with_word g iasr_at r.next.iasr)))
-  unfolding stepped stepped_at
+  unfolding stepped stepped_at accessed_at
   register-is = guard-step s n q es ∙ rw (ea, ep, er) refl
 
   pub register-answer : r.answer ≡ (register_step (Risaf n) q s).answer
@@ -119,7 +119,7 @@ module _ (s : State) (n : GuardNumber) (q : Request) where
 
 -- a read
 module _ (s : State) (n : GuardNumber) (q : Request) (w : q.write ≡ false) {shape : Shape} {a : Answer} (es : shape_at n.0 ≡ Some shape)
-    (ea : a ≡ read_answer shape (guard_words (guard_at s shape.place)) q) where
+    (ea : a ≡ read_answer (Some shape) (guard_words (guard_at s shape.place)) q) where
   abbrev read : Guard
   read = guard_at s shape.place
 

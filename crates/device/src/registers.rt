@@ -29,7 +29,11 @@ fn read_rifsc(state: &[u32; STATE_WORDS], q: Request) -> Answer
     let Some(reg) = rifsc::register_at(q.offset) else {
         return Answer::Rejected(Why::NoRegister);
     };
-    reg.row().read(stored(state, reg), q.offset)
+    rifsc::Row::read(
+        rifsc::Register::row(Some(reg)),
+        stored(state, reg),
+        q.offset,
+    )
 }
 
 // A register access to the controller: what it needs is taken by value, and one word is stored.
@@ -46,8 +50,8 @@ pub(crate) fn access_rifsc(state: &mut [u32; STATE_WORDS], q: Request) -> Answer
     let Some(reg) = rifsc::register_at(q.offset) else {
         return Answer::Rejected(Why::NoRegister);
     };
-    let row = reg.row();
-    let Accessed { answer, next } = load_seen(state, reg, row).access(reg, row, q);
+    let row = reg.columns();
+    let Accessed { answer, next } = load_seen(state, reg, row).access(Some(reg), Some(row), q);
     match answer {
         Answer::Done(_) => store_register(state, reg, next.word),
         Answer::Refused(_) => raise(state, RIFSC_FLAG),
@@ -65,7 +69,7 @@ fn read_iac(state: &mut [u32; STATE_WORDS], q: Request) -> Answer
     let Some(reg) = iac::register_at(q.offset) else {
         return Answer::Rejected(Why::NoRegister);
     };
-    let answer = reg.row().read(load_word(state, reg), q);
+    let answer = iac::Row::read(iac::Register::row(Some(reg)), load_word(state, reg), q);
     if let Answer::Refused(_) = answer {
         raise(state, IAC_FLAG);
     }
@@ -86,11 +90,11 @@ pub(crate) fn access_iac(state: &mut [u32; STATE_WORDS], q: Request) -> Answer
     let Some(reg) = iac::register_at(q.offset) else {
         return Answer::Rejected(Why::NoRegister);
     };
-    let row = reg.row();
+    let row = reg.columns();
     let seen = Seen {
         word: load_word(state, reg),
     };
-    let Accessed { answer, next } = seen.access(reg, row, q);
+    let Accessed { answer, next } = seen.access(Some(reg), Some(row), q);
     match answer {
         Answer::Done(_) => rewrite(state, reg, row.named, seen.word, next.word),
         Answer::Refused(_) => raise(state, IAC_FLAG),
@@ -110,7 +114,7 @@ fn read_guard(state: &mut [u32; STATE_WORDS], guard: GuardNumber, q: Request) ->
     };
     let place = Place::of(shape);
     let held = load_words(state, place);
-    let answer = risaf::read(held, shape, q);
+    let answer = risaf::read(held, Some(shape), q);
     if let Answer::Refused(_) = answer {
         let iasr = words::with_bit(held[IASR], CAEF, true);
         store_word(state, place, IASR, iasr);
@@ -139,7 +143,7 @@ pub(crate) fn access_guard(state: &mut [u32; STATE_WORDS], guard: GuardNumber, q
     };
     let place = Place::of(shape);
     let port = Port::at(load_words(state, place), row);
-    let Accessed { answer, next } = port.access(shape, row, q);
+    let Accessed { answer, next } = port.access(Some(shape), Some(row), q);
     match answer {
         Answer::Done(_) => store_word(state, place, row.place, next.word),
         Answer::Refused(_) => {

@@ -1,7 +1,7 @@
-#![tactic(auto, unfolding(crate::specs::Port::accessed, crate::specs::Port::read_answer, crate::specs::Port::read_of, crate::specs::Port::word_written))]
+#![tactic(auto, unfolding(crate::specs::Port::accessed, crate::specs::Port::accessed_at, crate::specs::Port::read_answer, crate::specs::Port::read_at, crate::specs::Port::read_of, crate::specs::Port::word_written))]
 
 ghost use Rattle.std.specs.Prelude.{◌&&◌, ◌||◌, not, ◌≡◌};
-ghost use Rattle.iac.specs.Port.{accessed, answer_of, read_answer, word_written};
+ghost use Rattle.iac.specs.Port.{accessed, accessed_at, answer_of, read_answer, word_written};
 
 use crate::Register;
 use crate::registers::{Row, iisr};
@@ -34,20 +34,23 @@ impl Row {
         !self.guarded | (q.secure & q.privileged)
     }
 
-    // The answer to a read of a register with this row, whose stored word is old.
-    pub fn read(self, old: u32, q: Request) -> Answer
-        ensures { result ≡ read_answer self old q }
+    // The answer to a read of a register with this row, if there is one, whose stored word is old.
+    pub fn read(row: Option<Self>, old: u32, q: Request) -> Answer
+        ensures { result ≡ read_answer row old q }
     {
         if q.offset % 4 != 0 {
             return Answer::Rejected(Why::Misaligned);
         }
-        if !self.admits(q) {
+        let Some(row) = row else {
+            return Answer::Rejected(Why::NoRegister);
+        };
+        if !row.admits(q) {
             return Answer::Refused(0);
         }
-        if !self.readable {
+        if !row.readable {
             return Answer::Rejected(Why::NoRegister);
         }
-        Answer::Done(words::united(words::masked(old, self.named), self.fixed))
+        Answer::Done(words::united(words::masked(old, row.named), row.fixed))
     }
 }
 
@@ -57,7 +60,7 @@ impl Seen {
         ensures { result ≡ answer_of row self.word q }
     {
         if !q.write {
-            return row.read(self.word, q);
+            return Row::read(Some(row), self.word, q);
         }
         // One test after the other: by Checks, which was tried, a write takes 25 instructions more, and a write to ICR, which now takes 1.73
         // of C's, would miss the bar of 1.8.
@@ -73,8 +76,8 @@ impl Seen {
         Answer::Done(0)
     }
 
-    // An access to a register with this row. A write that is done leaves another word. Not one with rifsc's: see there.
-    pub fn access(mut self, reg: Register, row: Row, q: Request) -> Accessed<Seen>
+    // An access to a register with this row. A write that is done leaves another word.
+    fn accessed(mut self, reg: Register, row: Row, q: Request) -> Accessed<Seen>
         ensures { result ≡ accessed reg row self q }
     {
         let answer = self.answer(row, q);
@@ -84,5 +87,22 @@ impl Seen {
             self.word = word_written(reg, self.word, q.value);
         }
         Accessed { next: self, answer }
+    }
+
+    // An access to a register with this row, if there are such. Not one with rifsc's: see there. Inline, so that what the caller knows is not
+    // tested again.
+    #[inline(always)]
+    pub fn access(self, reg: Option<Register>, row: Option<Row>, q: Request) -> Accessed<Seen>
+        ensures { result ≡ accessed_at reg row self q }
+    {
+        let Some(known) = row else {
+            let answer = Row::read(None, self.word, q);
+            return Accessed { next: self, answer };
+        };
+        let Some(reg) = reg else {
+            let answer = self.answer(known, q);
+            return Accessed { next: self, answer };
+        };
+        self.accessed(reg, known, q)
     }
 }

@@ -1,6 +1,6 @@
 #![tactic(auto, unfolding(crate::specs::Registers::iisr, crate::specs::Registers::register_at, crate::specs::Registers::row_of))]
 
-ghost use Rattle.std.specs.Prelude.{◌≡◌};
+ghost use Rattle.std.specs.Prelude.{◌≡◌, option_map};
 ghost use Rattle.iac.specs.Registers.{iisr, register_at, row, row_of};
 
 // A register of the illegal access controller, with its index.
@@ -72,7 +72,7 @@ impl Row {
 
 impl Register {
     // The table of registers. In the order of the columns: readable, writable, guarded, bits that read 1, named bits.
-    pub fn row(self) -> Row
+    pub fn columns(self) -> Row
         ensures { result ≡ row_of self }
     {
         match self {
@@ -81,5 +81,13 @@ impl Register {
             Register::Icr(x) => Row::of(false, true, true, 0, iisr(x)),
             Register::Iisr(x) => Row::of(true, false, false, iisr(x), 0),
         }
+    }
+
+    // The row of a register, if there is one.
+    #[inline(always)]
+    pub fn row(reg: Option<Self>) -> Option<Row>
+        ensures { result ≡ option_map row_of reg }
+    {
+        Some(reg?.columns())
     }
 }

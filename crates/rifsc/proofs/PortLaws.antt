@@ -6,9 +6,10 @@ use lib.Dec.{eqb}
 use Rattle.words.specs.Bit.{bit, word, field, masked, less, united}
 use Rattle.words.proofs.Laws.{bit-less, less-lt, word-ext}
 use Rattle.words.proofs.Masks.{united-masked}
-use Rattle.access.specs.Checks.{answered_with, reached_with}
+use Rattle.std.specs.Prelude.{Some, None}
+use Rattle.access.specs.Checks.{answered_with, no_register, reached_with}
 use Rattle.access.specs.declared.request.Request.{Request}
-use Rattle.rifsc.specs.Port.{answer_of, attr_bits, checks_of, read_answer, takes}
+use Rattle.rifsc.specs.Port.{answer_of, attr_bits, checks_of, read_answer, read_at, takes}
 use Rattle.rifsc.specs.declared.port.Seen.{Seen}
 use Rattle.rifsc.specs.declared.registers.Row.{Row}
 use Rattle.rifsc.specs.declared.registers.Register.TheVariants.{Privcfgr, Rimccr, Attr}
@@ -42,6 +43,11 @@ attr-taken m row v value secure = go (eqb (field value 4 3) 7)
 -- ---- a read
 
 pub read_is : (row : Row) (locked : Bool) (stored : ℕ) (q : Request) → q.write ≡ false
-    → answer_of row locked stored q ≡ read_answer row stored q.offset
-unfolding answer_of checks_of answered_with reached_with read_answer
+    → answer_of row locked stored q ≡ read_answer (Some row) stored q.offset
+unfolding answer_of checks_of answered_with reached_with read_answer read_at
 read_is row locked stored q w = rw w refl
+
+-- of no register
+pub read_none : (stored offset : ℕ) → no_register offset ≡ read_answer None stored offset
+unfolding answered_with reached_with read_answer read_at
+read_none stored offset = refl

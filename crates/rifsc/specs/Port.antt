@@ -8,7 +8,7 @@ use Rattle.access.specs.Request.{gives}
 use Rattle.access.specs.declared.accessed.Accessed.{Accessed}
 use Rattle.access.specs.declared.answer.Answer.{Answer}
 use Rattle.access.specs.declared.answer.Answer.TheVariants.{Done, Rejected}
-use Rattle.access.specs.declared.answer.Why.TheVariants.{Misaligned}
+use Rattle.access.specs.declared.answer.Why.TheVariants.{Misaligned, NoRegister}
 use Rattle.access.specs.declared.checks.Checks.{Checks}
 use Rattle.access.specs.declared.request.Request.{Request}
 use Rattle.rifsc.specs.Registers.{register_at, row_of}
@@ -65,10 +65,13 @@ checks_of row locked q =
 unfoldable pub answer_of : Row → Bool → ℕ → Request → Answer
 answer_of row locked stored q = answered (checks_of row locked q) (gives q (read_of row stored))
 
--- of a read, by its offset: what code goes by
-unfoldable pub read_answer : Row → ℕ → ℕ → Answer
-read_answer row stored offset =
-    unless (eqb (offset % 4) 0) (Rejected Misaligned) (Done (read_of row stored))
+-- of a read, by its offset and by the row of the register, if there is one: what code goes by
+unfoldable pub read_at : Option Row → ℕ → Answer
+read_at None stored = Rejected NoRegister
+read_at (Some row) stored = Done (read_of row stored)
+
+unfoldable pub read_answer : Option Row → ℕ → ℕ → Answer
+read_answer row stored offset = unless (eqb (offset % 4) 0) (Rejected Misaligned) (read_at row stored)
 
 -- ---- an access to what it needs of the controller, by value
 
@@ -82,6 +85,12 @@ accessed reg row v q =
       next = left a v (cond q.write (with_seen_word v (word_written reg row v q.value q.secure)) v) v;
       answer = a;
     }
+
+-- by the register and its row, if there are such: without a row the offset is no register's, without a register no word is written
+unfoldable pub accessed_at : Option Register → Option Row → Seen → Request → Accessed Seen
+accessed_at reg None v q = record { next = v; answer = no_register q.offset }
+accessed_at None (Some row) v q = record { next = v; answer = answer_of row v.locked v.word q }
+accessed_at (Some reg) (Some row) v q = accessed reg row v q
 
 -- ---- what an access leaves; a refusal leaves the controller as it was, and its flag is the IAC's
 

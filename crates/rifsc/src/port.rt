@@ -1,8 +1,8 @@
-#![tactic(auto, unfolding(crate::specs::Port::accessed, crate::specs::Port::read_answer, crate::specs::Port::read_of))]
+#![tactic(auto, unfolding(crate::specs::Port::accessed, crate::specs::Port::accessed_at, crate::specs::Port::read_answer, crate::specs::Port::read_at, crate::specs::Port::read_of))]
 
 ghost use Rattle.std.specs.Prelude.{◌≡◌, cond};
 ghost use Rattle.words.specs.Bit.{field, less, word};
-ghost use Rattle.rifsc.specs.Port.{accessed, answer_of, attr_bits, read_answer, read_of, takes};
+ghost use Rattle.rifsc.specs.Port.{accessed, accessed_at, answer_of, attr_bits, read_answer, read_of, takes};
 
 use crate::Register;
 use crate::masters::{MCID_AT, MCID_WIDE};
@@ -57,14 +57,17 @@ fn taken(reg: Register, row: Row, v: Seen, value: u32, secure: bool) -> u32
 }
 
 impl Row {
-    // The answer to a read of a register with this row and this word. Any read is allowed, so that only the offset counts.
-    pub fn read(self, word: u32, offset: u32) -> Answer
-        ensures { result ≡ read_answer self word offset }
+    // The answer to a read of a register with this row, if there is one, and this word. Any read is allowed, so that only the offset counts.
+    pub fn read(row: Option<Self>, word: u32, offset: u32) -> Answer
+        ensures { result ≡ read_answer row word offset }
     {
         if offset % 4 != 0 {
             return Answer::Rejected(Why::Misaligned);
         }
-        Answer::Done(words::united(words::masked(word, self.named), self.fixed))
+        let Some(row) = row else {
+            return Answer::Rejected(Why::NoRegister);
+        };
+        Answer::Done(words::united(words::masked(word, row.named), row.fixed))
     }
 }
 
@@ -74,7 +77,7 @@ impl Seen {
         ensures { result ≡ answer_of row self.locked self.word q }
     {
         if !q.write {
-            return row.read(self.word, q.offset);
+            return Row::read(Some(row), self.word, q.offset);
         }
         let write = Checks {
             aligned: q.offset % 4 == 0,
@@ -86,9 +89,8 @@ impl Seen {
         write.answer(0)
     }
 
-    // An access to a register with this row, which the caller has looked up. A write that is done leaves another word. The IAC has its own: what
-    // is answered and what is left differs, so one for both would take a trait of two methods for five lines.
-    pub fn access(mut self, reg: Register, row: Row, q: Request) -> Accessed<Seen>
+    // An access to a register with this row. A write that is done leaves another word.
+    fn accessed(mut self, reg: Register, row: Row, q: Request) -> Accessed<Seen>
         ensures { result ≡ accessed reg row self q }
     {
         let answer = self.answer(row, q);
@@ -99,5 +101,22 @@ impl Seen {
             self.word = words::merge(self.word, q.value, taken);
         }
         Accessed { next: self, answer }
+    }
+
+    // An access to a register with this row, if there are such. The IAC has its own: what is answered and what is left differs, so one for both
+    // would take a trait of three methods. Inline, so that what the caller knows is not tested again.
+    #[inline(always)]
+    pub fn access(self, reg: Option<Register>, row: Option<Row>, q: Request) -> Accessed<Seen>
+        ensures { result ≡ accessed_at reg row self q }
+    {
+        let Some(known) = row else {
+            let answer = Row::read(None, self.word, q.offset);
+            return Accessed { next: self, answer };
+        };
+        let Some(reg) = reg else {
+            let answer = self.answer(known, q);
+            return Accessed { next: self, answer };
+        };
+        self.accessed(reg, known, q)
     }
 }

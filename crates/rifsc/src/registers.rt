@@ -1,6 +1,6 @@
 #![tactic(auto, unfolding(crate::specs::Registers::ppsr, crate::specs::Registers::register_at, crate::specs::Registers::row_of))]
 
-ghost use Rattle.std.specs.Prelude.{◌≡◌};
+ghost use Rattle.std.specs.Prelude.{◌≡◌, option_map};
 ghost use Rattle.rifsc.specs.Registers.{ppsr, register_at, row, row_of};
 
 // A register of the controller, with its index where it is one of several.
@@ -100,7 +100,7 @@ impl Row {
 
 impl Register {
     // The table of registers. In the order of the columns: a write needs secure, lock, index, bits that read 1, named bits.
-    pub fn row(self) -> Row
+    pub fn columns(self) -> Row
         ensures { result ≡ row_of self }
     {
         match self {
@@ -115,5 +115,13 @@ impl Register {
                 ..Row::of(true, Lock::Never, x, ppsr(x), 0)
             },
         }
+    }
+
+    // The row of a register, if there is one.
+    #[inline(always)]
+    pub fn row(reg: Option<Self>) -> Option<Row>
+        ensures { result ≡ option_map row_of reg }
+    {
+        Some(reg?.columns())
     }
 }

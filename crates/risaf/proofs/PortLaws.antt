@@ -12,7 +12,7 @@ use Rattle.access.specs.Answer.{left}
 use Rattle.access.specs.Checks.{unless, answered_with, reached_with}
 use Rattle.access.specs.declared.answer.Answer.{Answer}
 use Rattle.access.specs.declared.answer.Answer.TheVariants.{Done, Refused, Rejected}
-use Rattle.access.specs.declared.answer.Why.TheVariants.{Misaligned, NoRegister}
+use Rattle.access.specs.declared.answer.Why.TheVariants.{Misaligned, NoRegister, NoSuch}
 use Rattle.access.specs.declared.request.Request.{Request}
 use Rattle.risaf.specs.Port.{allowed_of, answer_at, answer_of, bit_if, checks_of, checks_none, port_in, read_answer, read_at, read_reached, subcfgr_written, refused_port, accessed, stepped, stepped_at}
 use Rattle.risaf.specs.Contents.{iasr_at, guard_words, with_word}
@@ -52,19 +52,24 @@ cfgr-is named p value secure = cfgr-by 32 named p.word value 1 sec_bit p.glock s
 -- ---- a read
 
 -- it is what an access gives that is no write
-pub read_is : (shape : Shape) (w : List ℕ) (q : Request) → q.write ≡ false
-    → answer_at true shape.bus (row_at shape.regions q.offset) w q ≡ read_answer shape w q
+pub read_is : (there : Bool) (shape : Shape) (w : List ℕ) (q : Request) → q.write ≡ false
+    → answer_at there shape.bus (row_at shape.regions q.offset) w q ≡ read_answer (cond there (Some shape) None) w q
 unfolding answer_of checks_of checks_none allowed_of answered_with reached_with port_in read_answer read_at read_reached
-read_is shape w q h = go (row_at shape.regions q.offset)
+read_is false shape w q h = go (row_at shape.regions q.offset)
+  where
+    go : (r : Option Row) → answer_at false shape.bus r w q ≡ Rejected NoSuch
+    go None = refl
+    go (Some row) = refl
+read_is true shape w q h = go (row_at shape.regions q.offset)
   where
     go : (r : Option Row) → answer_at true shape.bus r w q ≡ unless (eqb (q.offset % 4) 0) (Rejected Misaligned) (read_at r w q)
     go None = refl
     go (Some row) = rw h refl
 
 pub read_stepped : (shape : Shape) (g : Guard) (q : Request) → q.write ≡ false
-    → (stepped true shape g q).answer ≡ read_answer shape (guard_words g) q
+    → (stepped true shape g q).answer ≡ read_answer (Some shape) (guard_words g) q
 unfolding stepped stepped_at accessed
-read_stepped shape g q h = go (row_at shape.regions q.offset) ∙ read_is shape (guard_words g) q h
+read_stepped shape g q h = go (row_at shape.regions q.offset) ∙ read_is true shape (guard_words g) q h
   where
     go : (r : Option Row) → (stepped_at true shape r g q).answer ≡ answer_at true shape.bus r (guard_words g) q
     go None = refl

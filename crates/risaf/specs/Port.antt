@@ -7,7 +7,7 @@ use Rattle.access.specs.Kind.{equals}
 use Rattle.access.specs.Request.{gives}
 use Rattle.access.specs.declared.answer.Answer.{Answer}
 use Rattle.access.specs.declared.answer.Answer.TheVariants.{Done, Refused, Rejected}
-use Rattle.access.specs.declared.answer.Why.TheVariants.{Misaligned, NoRegister}
+use Rattle.access.specs.declared.answer.Why.TheVariants.{Misaligned, NoRegister, NoSuch}
 use Rattle.access.specs.declared.bus.Bus.{Bus}
 use Rattle.access.specs.declared.bus.Bus.TheVariants.{Axi, Ahb}
 use Rattle.access.specs.declared.checks.Checks.{Checks}
@@ -149,8 +149,10 @@ unfoldable pub read_at : Option Row → List ℕ → Request → Answer
 read_at None w q = Rejected NoRegister
 read_at (Some row) w q = read_reached row (get_or w row.place 0) q
 
-unfoldable pub read_answer : Shape → List ℕ → Request → Answer
-read_answer shape w q = unless (eqb (q.offset % 4) 0) (Rejected Misaligned) (read_at (row_at shape.regions q.offset) w q)
+-- of a guard of this shape, if there is one
+unfoldable pub read_answer : Option Shape → List ℕ → Request → Answer
+read_answer None w q = Rejected NoSuch
+read_answer (Some shape) w q = unless (eqb (q.offset % 4) 0) (Rejected Misaligned) (read_at (row_at shape.regions q.offset) w q)
 
 -- ---- what an access leaves
 
@@ -178,6 +180,12 @@ accessed there shape row p q =
       next = left a p (cond q.write (with_port_word p w) p) (refused_port p);
       answer = a;
     }
+
+-- of a guard of this shape, to the register with this row, if there are such
+unfoldable pub accessed_at : Option Shape → Option Row → Port → Request → Accessed Port
+accessed_at None row p q = record { next = p; answer = Rejected NoSuch }
+accessed_at (Some shape) None p q = record { next = p; answer = answered (checks_none true q) 0 }
+accessed_at (Some shape) (Some row) p q = accessed true shape row p q
 
 -- ---- of the whole guard: the register's word is another where a write is done, IASR where the access is refused
 

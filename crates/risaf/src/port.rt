@@ -1,9 +1,9 @@
-#![tactic(auto, unfolding(crate::specs::Port::accessed, crate::specs::Port::answer_of, crate::specs::Port::checks_of, crate::specs::Port::allowed_of, crate::specs::Port::delegated, crate::specs::Port::port_in, crate::specs::Port::read_of, crate::specs::Port::read_reached, crate::specs::Port::read_at, crate::specs::Port::read_answer, crate::specs::Port::word_in, crate::specs::Rows::row_at, crate::specs::Rows::row_of))]
+#![tactic(auto, unfolding(crate::specs::Port::accessed, crate::specs::Port::answer_of, crate::specs::Port::checks_of, crate::specs::Port::allowed_of, crate::specs::Port::delegated, crate::specs::Port::port_in, crate::specs::Port::read_of, crate::specs::Port::read_reached, crate::specs::Port::read_at, crate::specs::Port::accessed_at, crate::specs::Port::checks_none, crate::specs::Port::read_answer, crate::specs::Port::word_in, crate::specs::Rows::row_at, crate::specs::Rows::row_of))]
 
 ghost use Rattle.std.specs.Prelude.{◌&&◌, cond, true, ◌≡◌, get_or};
 ghost use Rattle.words.specs.Bit.{word};
 ghost use Rattle.risaf.specs.Port.{
-  accessed,
+  accessed_at,
   answer_of,
   bit_if,
   delegated,
@@ -70,7 +70,7 @@ fn delegated(bus: Bus, p: Port, secure: bool) -> bool
 {
     if (p.nest >> DCEN) % 2 == 1 {
         let dccid = Cid((p.nest >> DCCID) % COMPARTMENTS);
-        return (dccid == port_cid(bus)) & (secure | !((p.base >> SEC) % 2 == 1));
+        return dccid.equals(port_cid(bus)) & (secure | !((p.base >> SEC) % 2 == 1));
     }
     secure
 }
@@ -166,11 +166,14 @@ impl Row {
     }
 }
 
-// The answer to a read, among the words of a guard of this shape. Each kind of register goes by rows of its own, which are a part of
-// the table.
-pub fn read(w: &[u32], shape: Shape, q: Request) -> Answer
+// The answer to a read, among the words of a guard of this shape, if there is one. Each kind of register goes by rows of its own, which are a
+// part of the table.
+pub fn read(w: &[u32], shape: Option<Shape>, q: Request) -> Answer
     ensures { result ≡ read_answer shape w.now q }
 {
+    let Some(shape) = shape else {
+        return Answer::Rejected(Why::NoSuch);
+    };
     if q.offset % 4 != 0 {
         return Answer::Rejected(Why::Misaligned);
     }
@@ -199,10 +202,28 @@ impl Port {
         }
     }
 
-    // An access to the register with this row. A write that is done leaves another word, a refused access sets CAEF.
-    pub fn access(mut self, shape: Shape, row: Row, q: Request) -> Accessed<Port>
-        ensures { result ≡ accessed true shape row self q }
+    // An access to the register with this row, if there are such a guard and register. A write that is done leaves another word, a refused access
+    // sets CAEF.
+    pub fn access(mut self, shape: Option<Shape>, row: Option<Row>, q: Request) -> Accessed<Port>
+        ensures { result ≡ accessed_at shape row self q }
     {
+        let Some(shape) = shape else {
+            return Accessed {
+                next: self,
+                answer: Answer::Rejected(Why::NoSuch),
+            };
+        };
+        let Some(row) = row else {
+            let none = Checks {
+                aligned: q.offset % 4 == 0,
+                known: false,
+                ..PASSED
+            };
+            return Accessed {
+                next: self,
+                answer: none.answer(0),
+            };
+        };
         let answer = answer(shape.bus, row, self, q);
         match answer {
             Answer::Done(_) => {

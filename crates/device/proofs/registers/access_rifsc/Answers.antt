@@ -28,20 +28,20 @@ returns-then-not-q c =
 pub returns-in-Done : goal.returns-in-Done
 returns-in-Done c =
     let a = c.args in
-    let all = controller-written (state_of a.state.now) a.q (sym c.register_at.ensures ∙ c.in-Some.is) c.row-row.ensures c.load_seen.ensures c.access-answer.ensures
+    let all = controller-written (state_of a.state.now) a.q (sym c.register_at.ensures ∙ c.in-Some.is) c.columns-row.ensures c.load_seen.ensures c.access-answer.ensures
     c.in-Done.is (not-false a.q.write c.if-not-q.false) c.store_register.ensures in
     record { answer = all.0; next = all.1 }
 
 pub returns-in-Refused : goal.returns-in-Refused
 returns-in-Refused c =
     let a = c.args in
-    let all = controller-refused (state_of a.state.now) a.q (sym c.register_at.ensures ∙ c.in-Some.is) c.row-row.ensures c.load_seen.ensures c.access-answer.ensures
+    let all = controller-refused (state_of a.state.now) a.q (sym c.register_at.ensures ∙ c.in-Some.is) c.columns-row.ensures c.load_seen.ensures c.access-answer.ensures
     c.in-Refused.is c.raise.ensures in
     record { answer = all.0; next = all.1 }
 
 pub returns-in-Rejected : goal.returns-in-Rejected
 returns-in-Rejected c =
     let a = c.args in
-    let all = controller-rejected (state_of a.state.now) a.q (sym c.register_at.ensures ∙ c.in-Some.is) c.row-row.ensures c.load_seen.ensures c.access-answer.ensures
+    let all = controller-rejected (state_of a.state.now) a.q (sym c.register_at.ensures ∙ c.in-Some.is) c.columns-row.ensures c.load_seen.ensures c.access-answer.ensures
     c.in-Rejected.is in
     record { answer = all.0; next = all.1 }

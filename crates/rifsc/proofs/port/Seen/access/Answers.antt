@@ -1,8 +1,9 @@
-use Rattle.words.proofs.Masks.{merged-word}
-use Rattle.rifsc.specs.Port.{accessed, word_written}
+use Rattle.rifsc.specs.Port.{accessed_at}
+use Rattle.rifsc.proofs.PortLaws.{read_none}
 use Rattle.rifsc.proofs.port.Seen.access.Goals as goal
 
-pub returns-in-Done : goal.returns-in-Done
-unfolding accessed word_written
-returns-in-Done c =
-    simp (c.merge.ensures, c.taken-taken.ensures, merged-word, ← c.answer-answer.ensures, c.in-Done.is, c.if-q.true)
+pub returns-in_default : goal.returns-in_default
+unfolding accessed_at
+returns-in_default c =
+    let a = c.args in
+    simp (c.in_default.is, c.read-answer.ensures, ← read_none a.self.word a.q.offset)
