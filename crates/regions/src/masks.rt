@@ -157,10 +157,10 @@ fn sub_gathered(
         return m;
     }
     let opens = serving(by, w[p]);
-    if privileged {
-        return with_sub_privileged(w[REGION_WORDS * x], w[p], opens, m);
+    if !privileged {
+        return with_sub(w[REGION_WORDS * x], w[p], opens, m);
     }
-    with_sub(w[REGION_WORDS * x], w[p], opens, m)
+    with_sub_privileged(w[REGION_WORDS * x], w[p], opens, m)
 }
 
 // With what base region x and its subregions say: nothing where it does not cover.
@@ -197,7 +197,9 @@ pub(crate) fn next_covering(w: &[u32], n: usize, o: u32) -> Option<usize>
     (0..n).find(|&x| covers(w, REGION_WORDS * x, o))
 }
 
-// What the first n base regions say to one asking: none below `from` covers.
+// What the first n base regions say to one asking: none below `from` covers. Never inlined: in a function of its own the loop has registers
+// enough for all that it gathers.
+#[inline(never)]
 pub(crate) fn gathered(
     w: &[u32],
     from: usize,
